@@ -1,1 +1,4 @@
+pub mod Bindings
+pub mod InstanceOrder
+pub mod Order
 pub mod Refusals

@@ -1,0 +1,37 @@
+/// A built-in function.
+///
+/// Source: RIF-DTB, "Functions and predicates", but for the name and meaning of `NumericIntegerMod`,
+/// which are our own (docs/PROFILE.md, "Built-ins").
+#[derive(Clone, Copy, Debug, PartialEq, Eq)]
+pub enum Func {
+    NumericAdd,
+    NumericSubtract,
+    NumericMultiply,
+    NumericIntegerDivide,
+    NumericIntegerMod,
+    Not,
+    Concat,
+    StringLength,
+}
+
+/// A built-in predicate.
+///
+/// Source: RIF-DTB, "Functions and predicates".
+#[derive(Clone, Copy, Debug, PartialEq, Eq)]
+pub enum Pred {
+    NumericEqual,
+    NumericNotEqual,
+    NumericLessThan,
+    NumericLessThanOrEqual,
+    NumericGreaterThan,
+    NumericGreaterThanOrEqual,
+    BooleanEqual,
+    BooleanLessThan,
+    BooleanGreaterThan,
+    StartsWith,
+    EndsWith,
+    Contains,
+    IsLiteralInteger,
+    IsLiteralString,
+    IsLiteralBoolean,
+}
