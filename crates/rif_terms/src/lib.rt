@@ -16,6 +16,7 @@ mod refusal;
 mod rule;
 mod text;
 mod tree;
+mod writing;
 
 pub use binding::Binding;
 pub use builtin::{Func, Pred};
@@ -30,3 +31,4 @@ pub use refusal::{Counted, Refusal};
 pub use rule::{Action, Decl, Doc, Rule, Target};
 pub use text::Text;
 pub use tree::{Formula, Level, Term};
+pub use writing::{push_const, push_fact, write_const, write_fact};
