@@ -1,0 +1,67 @@
+ghost use Rattle.std.specs.Prelude.{◌≡◌, IfOk};
+ghost use Rattle.session_states.specs.Batches.{IsLawful};
+
+use crate::item::Entry;
+use rif_terms::{Listed, OutOfMemory};
+use std::alloc::AllocError;
+use std::marker::Model;
+
+/// The entries that enter a session between two firings, in the order in which they were taken.
+/// Contracts see it as their list, which is lawful: at most 1,024 entries, and Halt or Dispose only at
+/// its end.
+///
+/// Source: our own (docs/PROFILE.md, "Batches").
+#[derive(Debug, PartialEq, Eq, Drop)]
+pub struct Batch {
+    entries: Listed<Entry>,
+}
+
+impl Model for Batch {
+    ghost use Rattle.std.specs.Prelude.{List};
+    ghost use Rattle.session_states.specs.declared.item.Entry.{Entry};
+    ghost use Rattle.session_states.specs.Batches.{IsLawful};
+
+    ghost Value = { List Entry };
+
+    ghost view = { λ batch. batch.entries };
+
+    ghost invariant = { λ batch. IsLawful batch.entries };
+
+    ghost inverse = { λ entries. record { entries = entries } };
+}
+
+impl Batch {
+    /// The batch of these entries, in constant time.
+    pub fn from_entries(entries: Listed<Entry>) -> Batch
+        requires { IsLawful entries }
+        ensures { result ≡ entries }
+    {
+        Batch { entries }
+    }
+
+    /// The entries, in order, in constant time.
+    pub fn entries(&self) -> &[Entry]
+        ensures entries { result.now ≡ self.now }
+        ensures lawful { IsLawful self.now }
+    {
+        let _entries = &self.entries;
+        self.entries.as_slice()
+    }
+
+    /// An equal batch, at the cost of a copy of each entry.
+    pub fn copy(&self) -> Result<Batch, OutOfMemory>
+        ensures { IfOk result (λ copy. copy ≡ self.now) }
+    {
+        Ok(self.clone()?)
+    }
+}
+
+impl Clone for Batch {
+    ghost is_clone = { λ batch copy. copy ≡ batch };
+
+    fn clone(&self) -> Result<Batch, AllocError> {
+        Ok(Batch {
+            entries: self.entries.clone()?,
+        })
+    }
+}
