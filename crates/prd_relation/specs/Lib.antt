@@ -1,0 +1,9 @@
+pub mod Blocks
+pub mod Builtins
+pub mod Choice
+pub mod ConflictSet
+pub mod Extensions
+pub mod History
+pub mod Runs
+pub mod Turns
+pub mod Values

@@ -1,0 +1,137 @@
+-- Turns: what a session does with a batch.
+--     Session                  a session between two turns: its state, its history, and how many objects were made
+--     session_with s batch     the session with the batch's items taken in order
+--     turn_of doc s batch      the turn of a batch, and the session after it
+-- A batch with a change leads to one new state, in which nothing was picked; a firing leads to one new state, a void
+-- one too; facts in the middle of a batch or a block belong to no state.
+-- Source: RIF-PRD, "Operational semantics of a production rule system"; batches of clients and acts are the
+-- project's own (docs/PROFILE.md, "Turns").
+use Rattle.std.specs.Prelude.{ℕ, zero, suc, List, [], ◌∷◌, fold, Some, None}
+use Rattle.std.specs.List.{filter_map}
+use Rattle.std.specs.Option.{option_map_or}
+use Rattle.std.specs.declared.option.Option.{Option}
+use Rattle.rif_terms.specs.declared.fact.Fact.{Fact}
+use Rattle.rif_terms.specs.declared.instance.Instance.{Instance}
+use Rattle.rif_terms.specs.declared.change.Change.{Change}
+use Rattle.rif_terms.specs.declared.rule.Doc.{Doc}
+use Rattle.rif_terms.specs.Facts.{facts_after, net_change}
+use Rattle.session_states.specs.declared.item.Item.{Item}
+use Rattle.session_states.specs.declared.item.Item.TheVariants.{Change as ChangeItem, Fire, Until, Halt, Dispose}
+use Rattle.session_states.specs.declared.item.Entry.{Entry}
+use Rattle.session_states.specs.declared.state.State.{State}
+use Rattle.session_states.specs.declared.state.State.TheVariants.{Idle, Firing, UntilHalt, Disposed}
+use Rattle.session_states.specs.declared.turn.Act.{Act}
+use Rattle.session_states.specs.declared.turn.Act.TheVariants.{Idle as IdleAct, Halted, Disposed as DisposedAct, Fired, StoppedQuiet, StoppedLimit, Resting}
+use Rattle.session_states.specs.declared.turn.Effect.{Effect}
+use Rattle.session_states.specs.declared.turn.Effect.TheVariants.{None as NoEffect, Void, Net}
+use Rattle.session_states.specs.declared.turn.Turn.{Turn}
+use Rattle.session_states.specs.Machine.{state_after}
+use Rattle.prd_relation.specs.History.{Snapshot, first_history, newest_facts, moments_of}
+use Rattle.prd_relation.specs.Choice.{rule_of, chosen_instance}
+use Rattle.prd_relation.specs.Blocks.{Block, void, changing, block_of}
+
+pub record Session : Type 0 where
+  pub state : State
+  pub history : List Snapshot
+  pub made : ℕ
+
+-- idle, with no facts, and no object made
+abbrev pub first_session : Session
+first_session = record { state = Idle; history = first_history; made = 0 }
+
+abbrev pub change_in : Entry → Option Change
+change_in entry = elim entry.item [ ChangeItem change ↦ Some change | Fire n ↦ None | Until n ↦ None | Halt ↦ None | Dispose ↦ None ]
+
+abbrev pub changes_in : List Entry → List Change
+changes_in batch = filter_map change_in batch
+
+abbrev pub state_with : State → List Entry → State
+state_with state batch = fold (λ s entry. state_after s entry.item) state batch
+
+-- some changes lead to one more state, and none to no further one
+abbrev pub history_with : List Snapshot → List Change → List Snapshot
+history_with history [] = history
+history_with history (change ∷ changes) = record { facts = facts_after (newest_facts history) (change ∷ changes); pick = None } ∷ history
+
+abbrev pub session_with : Session → List Entry → Session
+session_with session batch = record {
+  state = state_with session.state batch;
+  history = history_with session.history (changes_in batch);
+  made = session.made;
+}
+
+-- how a batch ends
+pub data Ending : Type 0 where
+  in_halt : Ending
+  in_dispose : Ending
+  in_neither : Ending
+
+abbrev pub ending_item : Item → Ending
+ending_item (ChangeItem change) = in_neither
+ending_item (Fire more) = in_neither
+ending_item (Until more) = in_neither
+ending_item Halt = in_halt
+ending_item Dispose = in_dispose
+
+abbrev pub ending_of : List Entry → Ending
+ending_of [] = in_neither
+ending_of (entry ∷ []) = ending_item entry.item
+ending_of (entry ∷ next ∷ entries) = ending_of (next ∷ entries)
+
+-- what a turn came to: its act, its pick and effect, and the session after it
+pub record Outcome : Type 0 where
+  pub act : Act
+  pub pick : Option Instance
+  pub effect : Effect
+  pub session : Session
+
+-- an act that fires nothing leaves the history, and leads to a state
+abbrev pub resting_in : Act → State → Session → Outcome
+resting_in act state session = record { act = act; pick = None; effect = NoEffect; session = record session { state = state } }
+
+-- the block of an instance at the newest state of facts
+abbrev pub block_at : Doc → Session → Instance → Block
+block_at doc session i =
+    option_map_or (λ rule. block_of rule i.row (newest_facts session.history) session.made) (rule_of doc i.rule) void
+
+-- the session with one more state, which the pick led to
+abbrev pub session_fired : Session → State → Instance → List Fact → ℕ → Session
+session_fired session state i facts made = record { state = state; history = record { facts = facts; pick = Some i } ∷ session.history; made = made }
+
+abbrev pub firing_of : Session → State → Instance → Block → Outcome
+firing_of session state i void =
+    record { act = Fired; pick = Some i; effect = Void; session = session_fired session state i (newest_facts session.history) session.made }
+firing_of session state i (changing changes made) =
+    let old = newest_facts session.history in
+    let new = facts_after old changes in
+    record { act = Fired; pick = Some i; effect = Net (net_change old new); session = session_fired session state i new made }
+
+-- an instance is chosen: it fires where the budget isn't spent
+abbrev pub with_budget : Doc → Session → (ℕ → State) → ℕ → Instance → Outcome
+with_budget doc session state zero i = resting_in StoppedLimit Idle session
+with_budget doc session state (suc left) i = firing_of session (state left) i (block_at doc session i)
+
+-- the acts of a session that has taken a batch which ends in neither a Halt nor a Dispose
+abbrev pub act_in : Doc → Session → State → Option Instance → Outcome
+act_in doc session Idle choice = resting_in IdleAct Idle session
+act_in doc session (Firing left) (Some i) = with_budget doc session Firing left i
+act_in doc session (Firing left) None = resting_in StoppedQuiet Idle session
+act_in doc session (UntilHalt left) (Some i) = with_budget doc session UntilHalt left i
+act_in doc session (UntilHalt left) None = resting_in Resting (UntilHalt left) session
+act_in doc session Disposed choice = resting_in DisposedAct Disposed session
+
+abbrev pub act_after : Doc → Ending → Session → Outcome
+act_after doc in_dispose session = resting_in DisposedAct Disposed session
+act_after doc in_halt session = resting_in Halted Idle session
+act_after doc in_neither session = act_in doc session session.state (chosen_instance doc (moments_of doc session.history))
+
+abbrev pub outcome_of : Doc → Session → List Entry → Outcome
+outcome_of doc session batch = act_after doc (ending_of batch) (session_with session batch)
+
+abbrev pub turn_of : Doc → Session → List Entry → Turn
+turn_of doc session batch =
+    let outcome = outcome_of doc session batch in
+    record { batch = batch; act = Some outcome.act; pick = outcome.pick; effect = outcome.effect }
+
+abbrev pub session_after : Doc → Session → List Entry → Session
+session_after doc session batch = (outcome_of doc session batch).session

@@ -1,0 +1,10 @@
+use rif_terms::{Instance, Listed};
+
+/// One state of a history: its conflict set, and the instance whose firing led to it, where one did.
+///
+/// Source: RIF-PRD, "Conflict set" and "Conflict resolution".
+#[derive(Debug, PartialEq, Eq, Drop)]
+pub struct Moment {
+    pub conflict_set: Listed<Instance>,
+    pub pick: Option<Instance>,
+}
