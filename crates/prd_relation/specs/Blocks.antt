@@ -4,8 +4,8 @@
 --     block_of rule row w k     the block at the state w, where k objects were made before: void, or its changes
 -- Source: RIF-PRD, "Action blocks" and "Operational semantics of atomic actions"; the objects that `New` makes, the
 -- least value of a declared slot and void blocks are the project's own (docs/PROFILE.md, "Actions").
-use Rattle.std.specs.Prelude.{ℕ, ◌+◌, ◌^◌, Bool, List, [], ◌∷◌, ◌++◌, map, nat_lt, Some, None, if◌then◌else◌}
-use Rattle.std.specs.List.{filter_map}
+use Rattle.std.specs.Prelude.{ℕ, ◌+◌, ◌^◌, ◌&&◌, List, [], ◌∷◌, map, slice_get, nat_lt, Some, None, if◌then◌else◌}
+use Rattle.std.specs.List.{filter_map, flat_map}
 use Rattle.std.specs.Option.{option_map, option_and_then}
 use Rattle.std.specs.declared.option.Option.{Option}
 use Rattle.rif_terms.specs.declared.constant.Const.{Const}
@@ -22,10 +22,10 @@ use Rattle.rif_terms.specs.declared.rule.Action.TheVariants.{Assert, Retract, Re
 use Rattle.rif_terms.specs.declared.rule.Decl.{Decl}
 use Rattle.rif_terms.specs.declared.rule.Decl.TheVariants.{Slot, New}
 use Rattle.rif_terms.specs.declared.rule.Rule.{Rule}
-use Rattle.rif_terms.specs.Facts.{is_slot_value}
+use Rattle.rif_terms.specs.Facts.{same_const}
 use Rattle.prd_relation.specs.Values.{Row, all_of, value_of, values_of, bound}
 
--- the values of a block's variables so far, and how many objects were made
+-- the values of the rule's variables and of the block's so far, and how many objects were made
 pub record Scope : Type 0 where
   pub row : Row
   pub made : ℕ
@@ -33,16 +33,12 @@ pub record Scope : Type 0 where
 -- the value, where the fact is a frame of the object and slot
 abbrev pub slot_value : Const → Const → Fact → Option Const
 slot_value o s (Atom p cs) = None
-slot_value o s (Frame p t v) = if is_slot_value o s (Frame p t v) then Some v else None
+slot_value o s (Frame p t v) = if same_const o p && same_const s t then Some v else None
 slot_value o s (Member p c) = None
-
-abbrev pub first_value : List Const → Option Const
-first_value [] = None
-first_value (c ∷ cs) = Some c
 
 -- the least value of an object's slot: the frames of one object and slot stand in order of their values
 abbrev pub least_value : List Fact → Const → Const → Option Const
-least_value w o s = first_value (filter_map (slot_value o s) w)
+least_value w o s = slice_get (filter_map (slot_value o s) w) 0
 
 -- f of two values, where both are there
 abbrev pub of_both : {A : Type 0} → Option Const → Option Const → (Const → Const → Option A) → Option A
@@ -83,15 +79,8 @@ action_changes row (RetractSlot object slot) =
 action_changes row (RetractObject object) = option_map (λ o. RetractObjectChange o ∷ []) (value_of row object)
 action_changes row (Modify object pairs) = slot_changes ModifyChange row object pairs
 
--- two lists joined, where both are there
-abbrev pub joined : Option (List Change) → Option (List Change) → Option (List Change)
-joined None more = None
-joined (Some changes) None = None
-joined (Some changes) (Some more) = Some (changes ++ more)
-
 abbrev pub changes_of : Row → List Action → Option (List Change)
-changes_of row [] = Some []
-changes_of row (action ∷ actions) = joined (action_changes row action) (changes_of row actions)
+changes_of row actions = option_map (flat_map (λ changes. changes)) (all_of (map (action_changes row) actions))
 
 -- what a block is at a state
 pub data Block : Type 0 where

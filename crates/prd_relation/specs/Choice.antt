@@ -1,12 +1,12 @@
 -- Which instance is picked. The steps and their order are those of rif:forwardChaining, and the last one, the tie
 -- break, is the project's own.
---     unrefracted_instances ms is     those that haven't fired, or weren't eligible all the time since
---     highest_instances priority is   of these, those of the highest priority
---     youngest_instances ms is        of these, those that have been eligible for the fewest states
---     allowed_instances               the three steps on the newest conflict set
---     chosen_instance                 the least of the allowed ones
+--     unrefracted_instances ms is     those that aren't refracted
+--     highest_instances doc is        of these, those whose rules have the highest priority
+--     youngest_instances ms is        of these, those of the least age
+--     allowed_instances doc ms        the three steps on the newest conflict set
+--     chosen_instance doc ms          the least of the allowed ones
 -- Source: RIF-PRD, "Conflict resolution", rif:forwardChaining; the tie break is docs/PROFILE.md, "Tie break".
-use Rattle.std.specs.Prelude.{◌≡◌, ℕ, zero, suc, ℤ, pos, Bool, not, List, [], ◌∷◌, filter, slice_get, nat_lt, Some, None}
+use Rattle.std.specs.Prelude.{ℕ, zero, suc, ℤ, pos, Bool, not, List, filter, slice_get, nat_lt, Some, None}
 use Rattle.std.specs.List.{list_any}
 use Rattle.std.specs.Option.{option_map_or}
 use Rattle.std.specs.Ordering.{int_cmp, is_lt}
@@ -32,25 +32,25 @@ unrefracted_instances moments instances = filter (λ i. not (is_refracted moment
 abbrev pub is_lower : Doc → Instance → Instance → Bool
 is_lower doc i j = is_lt (int_cmp (priority_of doc i.rule) (priority_of doc j.rule))
 
-abbrev pub highest_instances : Doc → List Instance → List Instance
-highest_instances doc instances = filter (λ i. not (list_any (λ j. is_lower doc i j) instances)) instances
+-- those than which no other is better
+abbrev pub best_by : {X : Type 0} → (X → X → Bool) → List X → List X
+best_by is_worse xs = filter (λ x. not (list_any (is_worse x) xs)) xs
 
--- whether j has been eligible for fewer states than i
+abbrev pub highest_instances : Doc → List Instance → List Instance
+highest_instances doc instances = best_by (is_lower doc) instances
+
+-- whether i's age is above j's
 abbrev pub is_older : List Moment → Instance → Instance → Bool
 is_older moments i j = nat_lt (age_of moments j) (age_of moments i)
 
 abbrev pub youngest_instances : List Moment → List Instance → List Instance
-youngest_instances moments instances = filter (λ i. not (list_any (λ j. is_older moments i j) instances)) instances
+youngest_instances moments instances = best_by (is_older moments) instances
 
 -- those that may be picked next, before the tie break
 abbrev pub allowed_instances : Doc → List Moment → List Instance
 allowed_instances doc moments =
     youngest_instances moments (highest_instances doc (unrefracted_instances moments (newest_conflict_set moments)))
 
-abbrev pub first_of : List Instance → Option Instance
-first_of [] = None
-first_of (i ∷ is) = Some i
-
 -- the least of the allowed instances: a conflict set is in order
 abbrev pub chosen_instance : Doc → List Moment → Option Instance
-chosen_instance doc moments = first_of (allowed_instances doc moments)
+chosen_instance doc moments = slice_get (allowed_instances doc moments) 0

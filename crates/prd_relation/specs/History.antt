@@ -2,11 +2,11 @@
 -- empty state of facts, from which each run starts. State number n is the one that has n states behind it.
 --     Snapshot                    a state of facts, and the instance whose firing led to it, where one did
 --     moments_of doc h            the conflict sets and picks of a history
---     is_eligible m i             whether the conflict set of a state has the instance
---     age_of ms i                 for how many states in a row, up to the newest, the instance has been eligible
---     is_refracted ms i           whether the instance was picked, and has been eligible ever since
---     IsAge ms i n                the first, in words that count no state
---     IsRefracted ms i            the second, in the words of the standard
+--     has_instance m i            whether the conflict set of a state has the instance
+--     age_of ms i                 for how many states in a row, up to the newest, conflict sets have had the instance
+--     is_refracted ms i           whether the instance was picked, and conflict sets have had it ever since
+--     IsAge ms i n                that the age is n, without the recursion
+--     IsRefracted ms i            that the instance is refracted, without the recursion
 -- Source: RIF-PRD, "Conflict resolution", rif:forwardChaining: refraction and recency. Which states count is the
 -- project's own (docs/PROFILE.md, "States that count").
 use Rattle.std.specs.Prelude.{◌≡◌, ℕ, suc, Bool, true, false, ◌&&◌, ◌||◌, List, [], ◌∷◌, ◌++◌, map, length, Some, None, IfSome, if◌then◌else◌}
@@ -44,8 +44,8 @@ newest_conflict_set (moment ∷ moments) = moment.conflict_set
 abbrev pub same_instance : Instance → Instance → Bool
 same_instance = eq_by_cmp instance_cmp
 
-abbrev pub is_eligible : Moment → Instance → Bool
-is_eligible moment i = has instance_cmp moment.conflict_set i
+abbrev pub has_instance : Moment → Instance → Bool
+has_instance moment i = has instance_cmp moment.conflict_set i
 
 -- whether the firing of the instance led to a state
 abbrev pub is_pick : Option Instance → Instance → Bool
@@ -54,18 +54,18 @@ is_pick (Some j) i = same_instance j i
 
 abbrev pub age_of : List Moment → Instance → ℕ
 age_of [] i = 0
-age_of (newest ∷ earlier) i = if is_eligible newest i then suc (age_of earlier i) else 0
+age_of (newest ∷ earlier) i = if has_instance newest i then suc (age_of earlier i) else 0
 
--- it was eligible before and fired, or it was refracted before; and it is eligible
+-- it is in the conflict set, and it was there before and fired, or was refracted before
 abbrev pub is_refracted : List Moment → Instance → Bool
 is_refracted [] i = false
 is_refracted (newest ∷ earlier) i =
-    is_eligible newest i && ((has instance_cmp (newest_conflict_set earlier) i && is_pick newest.pick i) || is_refracted earlier i)
+    has_instance newest i && ((has instance_cmp (newest_conflict_set earlier) i && is_pick newest.pick i) || is_refracted earlier i)
 
--- the instance isn't eligible at the newest of these states
+-- the conflict set of the newest of these states hasn't the instance
 abbrev pub Interrupts : List Moment → Instance → Type 0
 Interrupts [] i = Unit {0}
-Interrupts (moment ∷ moments) i = is_eligible moment i ≡ false
+Interrupts (moment ∷ moments) i = has_instance moment i ≡ false
 
 -- the newest n states have the instance in their conflict sets, and the one before them hasn't
 pub record IsAge (moments : List Moment) (i : Instance) (n : ℕ) : Type 0 where
@@ -73,7 +73,7 @@ pub record IsAge (moments : List Moment) (i : Instance) (n : ℕ) : Type 0 where
   pub earlier : List Moment
   pub all : moments ≡ recent ++ earlier
   pub count : length recent ≡ n
-  pub eligible : AllByRecursion (λ moment. is_eligible moment i ≡ true) recent
+  pub there : AllByRecursion (λ moment. has_instance moment i ≡ true) recent
   pub ends : Interrupts earlier i
 
 -- some state was reached by a firing of the instance, and from the state in which it fired on each has it in its
@@ -85,9 +85,9 @@ pub record IsRefracted (moments : List Moment) (i : Instance) : Type 0 where
   pub earlier : List Moment
   pub all : moments ≡ later ++ reached ∷ fired_at ∷ earlier
   pub picked : is_pick reached.pick i ≡ true
-  pub eligible : AllByRecursion (λ moment. is_eligible moment i ≡ true) (later ++ reached ∷ fired_at ∷ [])
+  pub there : AllByRecursion (λ moment. has_instance moment i ≡ true) (later ++ reached ∷ fired_at ∷ [])
 
--- each pick was eligible at the state before it, and the first state is empty and was reached by no firing
+-- each pick was in the conflict set of the state before it, and the first state is empty and was reached by no firing
 abbrev pub IsHistory : Doc → List Snapshot → Type 0
 IsHistory doc [] = ⊥
 IsHistory doc (first ∷ []) = (first.facts ≡ []) × (first.pick ≡ None)

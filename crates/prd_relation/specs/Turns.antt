@@ -60,23 +60,11 @@ session_with session batch = record {
   made = session.made;
 }
 
--- how a batch ends
-pub data Ending : Type 0 where
-  in_halt : Ending
-  in_dispose : Ending
-  in_neither : Ending
-
-abbrev pub ending_item : Item → Ending
-ending_item (ChangeItem change) = in_neither
-ending_item (Fire more) = in_neither
-ending_item (Until more) = in_neither
-ending_item Halt = in_halt
-ending_item Dispose = in_dispose
-
-abbrev pub ending_of : List Entry → Ending
-ending_of [] = in_neither
-ending_of (entry ∷ []) = ending_item entry.item
-ending_of (entry ∷ next ∷ entries) = ending_of (next ∷ entries)
+-- the act of a batch that ends in a Halt or a Dispose
+abbrev pub ending_act : List Entry → Option Act
+ending_act [] = None
+ending_act (entry ∷ []) = elim entry.item [ ChangeItem change ↦ None | Fire n ↦ None | Until n ↦ None | Halt ↦ Some Halted | Dispose ↦ Some DisposedAct ]
+ending_act (entry ∷ next ∷ entries) = ending_act (next ∷ entries)
 
 -- what a turn came to: its act, its pick and effect, and the session after it
 pub record Outcome : Type 0 where
@@ -85,9 +73,9 @@ pub record Outcome : Type 0 where
   pub effect : Effect
   pub session : Session
 
--- an act that fires nothing leaves the history, and leads to a state
-abbrev pub resting_in : Act → State → Session → Outcome
-resting_in act state session = record { act = act; pick = None; effect = NoEffect; session = record session { state = state } }
+-- an act that fires nothing keeps the history as it was, and leads to a state
+abbrev pub unfired : Act → State → Session → Outcome
+unfired act state session = record { act = act; pick = None; effect = NoEffect; session = record session { state = state } }
 
 -- the block of an instance at the newest state of facts
 abbrev pub block_at : Doc → Session → Instance → Block
@@ -108,25 +96,25 @@ firing_of session state i (changing changes made) =
 
 -- an instance is chosen: it fires where the budget isn't spent
 abbrev pub with_budget : Doc → Session → (ℕ → State) → ℕ → Instance → Outcome
-with_budget doc session state zero i = resting_in StoppedLimit Idle session
-with_budget doc session state (suc left) i = firing_of session (state left) i (block_at doc session i)
+with_budget doc session next zero i = unfired StoppedLimit Idle session
+with_budget doc session next (suc left) i = firing_of session (next left) i (block_at doc session i)
 
--- the acts of a session that has taken a batch which ends in neither a Halt nor a Dispose
-abbrev pub act_in : Doc → Session → State → Option Instance → Outcome
-act_in doc session Idle choice = resting_in IdleAct Idle session
-act_in doc session (Firing left) (Some i) = with_budget doc session Firing left i
-act_in doc session (Firing left) None = resting_in StoppedQuiet Idle session
-act_in doc session (UntilHalt left) (Some i) = with_budget doc session UntilHalt left i
-act_in doc session (UntilHalt left) None = resting_in Resting (UntilHalt left) session
-act_in doc session Disposed choice = resting_in DisposedAct Disposed session
+-- the outcome of a session that has taken a batch which ends in neither a Halt nor a Dispose
+abbrev pub outcome_in : Doc → Session → State → Option Instance → Outcome
+outcome_in doc session Idle choice = unfired IdleAct Idle session
+outcome_in doc session (Firing left) (Some i) = with_budget doc session Firing left i
+outcome_in doc session (Firing left) None = unfired StoppedQuiet Idle session
+outcome_in doc session (UntilHalt left) (Some i) = with_budget doc session UntilHalt left i
+outcome_in doc session (UntilHalt left) None = unfired Resting (UntilHalt left) session
+outcome_in doc session Disposed choice = unfired DisposedAct Disposed session
 
-abbrev pub act_after : Doc → Ending → Session → Outcome
-act_after doc in_dispose session = resting_in DisposedAct Disposed session
-act_after doc in_halt session = resting_in Halted Idle session
-act_after doc in_neither session = act_in doc session session.state (chosen_instance doc (moments_of doc session.history))
+-- a Halt or a Dispose at the end of a batch fixes the act, and the machine has the state that it led to
+abbrev pub outcome_after : Doc → Option Act → Session → Outcome
+outcome_after doc (Some act) session = unfired act session.state session
+outcome_after doc None session = outcome_in doc session session.state (chosen_instance doc (moments_of doc session.history))
 
 abbrev pub outcome_of : Doc → Session → List Entry → Outcome
-outcome_of doc session batch = act_after doc (ending_of batch) (session_with session batch)
+outcome_of doc session batch = outcome_after doc (ending_act batch) (session_with session batch)
 
 abbrev pub turn_of : Doc → Session → List Entry → Turn
 turn_of doc session batch =

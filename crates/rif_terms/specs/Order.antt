@@ -1,8 +1,7 @@
--- The orders of constants, facts, bindings and instances.
+-- The orders of constants, facts and bindings.
 --     const_cmp        by kind, and within a kind by value or bytes
 --     fact_cmp         by kind, and within a kind field by field
 --     binding_cmp      as lists of pairs of a variable and its value
---     instance_cmp     by rule, then by binding
 -- Source: the project's own (docs/PROFILE.md, "Order").
 use Rattle.std.specs.Prelude.{ℕ, List}
 use Rattle.std.specs.declared.cmp.Ordering.{Ordering}

@@ -45,7 +45,8 @@ impl Binding {
 
     /// The pairs of a variable and its value, in order of variable, in constant time.
     pub fn pairs(&self) -> &[(u32, Const)]
-        ensures { result.now ≡ self.now }
+        ensures pairs { result.now ≡ self.now }
+        ensures rising { IsBinding self.now }
     {
         self.pairs.as_slice()
     }

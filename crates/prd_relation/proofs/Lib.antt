@@ -1,0 +1,4 @@
+pub mod BoundLemmas
+pub mod GatheringLemmas
+pub mod MatchingLemmas
+pub mod ThroughLemmas
