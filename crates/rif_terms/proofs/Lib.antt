@@ -1,0 +1,4 @@
+pub mod SetsChanges
+pub mod SetsMembers
+pub mod SetsSorted
+pub mod SetsSteps
