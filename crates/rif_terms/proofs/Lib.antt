@@ -1,3 +1,4 @@
+pub mod ExactLemmas
 pub mod SetsChanges
 pub mod SetsMembers
 pub mod SetsSorted

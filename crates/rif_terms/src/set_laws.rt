@@ -1,5 +1,7 @@
 //! What the words of sets and changes promise, for each order that tells its elements apart. Each law is
-//! the clause of a function with an empty body.
+//! the clause of a function with an empty body, and its statement stands in specs/SetLaws.antt.
+//!
+//! Source: the project's own way to write finite sets.
 ghost use Rattle.rif_terms.specs.Sets.{IsExact};
 ghost use Rattle.rif_terms.specs.SetLaws.{HasWhatIsContained, IsSettledByElements, OrdersAnyList, LeavesASetInOrder, AddsAndRemoves, IsDoneOneByOne, TellsTheDifference, LeadsToTheNewSet, CanBeDone, IsNetOfWhatItLeadsTo, AreTogetherOne};
 

@@ -7,8 +7,9 @@ use std::alloc::Global;
 
 /// The items in order, each once: a finite set as a list. Of items that compare alike the first stays.
 ///
-/// It takes time as n log n in the number n of items, and memory for half of them while it sorts. The
-/// room of the `Vec` stays with the list.
+/// It takes time as n log n in the number n of items, and as n where they come in order or the other way
+/// round. While it sorts it takes memory for n items, and none where they come so or are 20 at most. The
+/// list has the room of the `Vec`.
 ///
 /// Source: the project's own way to write finite sets.
 pub fn sorted_set<K: Ord + Drop>(alloc: Global, mut items: Vec<K>) -> Result<Listed<K>, OutOfMemory>
