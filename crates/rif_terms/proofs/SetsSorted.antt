@@ -38,32 +38,37 @@ find_filter {X} p (x ∷ xs) = by_answer (p x) refl (find_filter p xs)
     by_answer false fails later = later
 
 module _ {K : Type 0} where
+  -- nothing behind the first
   or_none : (first : Option K) → option_or first None ≡ first
   or_none None = refl
   or_none (Some y) = refl
 
+  -- of three, the last two may be taken together
   or_step : (first : Option K) (test : Bool) (x : K) (later : Option K)
       → option_or (option_or first (cond test (Some x) None)) later ≡ option_or first (cond test (Some x) later)
   or_step None true x later = refl
   or_step None false x later = refl
   or_step (Some y) test x later = refl
 
-  -- k in front of what has none alike, behind one that is alike, and among what stands behind x
+  -- k in front of what has none alike
   or_front : (test : Bool) (k : K) (first : Option K) → (test ≡ true → first ≡ None)
       → cond test (Some k) first ≡ option_or first (cond test (Some k) None)
   or_front true k first none = ap (λ (o : Option K). option_or o (Some k)) (sym (none refl))
   or_front false k first none = sym (or_none first)
 
+  -- k left out where x is alike
   or_there : (test : Bool) (k x : K) (first : Option K) → (test ≡ true → first ≡ Some x)
       → first ≡ option_or first (cond test (Some k) None)
   or_there true k x first there = there refl ∙ ap (λ (o : Option K). option_or o (Some k)) (sym (there refl))
   or_there false k x first there = sym (or_none first)
 
+  -- k put in behind x
   or_later : (test : Bool) (x : K) (all first last : Option K) → all ≡ option_or first last
       → cond test (Some x) all ≡ option_or (cond test (Some x) first) last
   or_later true x all first last later = refl
   or_later false x all first last later = later
 
+  -- x left out where k stands before it and is alike
   one_test : (test : Bool) (k x : K) (later : Option K)
       → cond test (Some k) later ≡ cond test (Some k) (cond test (Some x) later)
   one_test true k x later = refl
@@ -90,6 +95,7 @@ module _ {K : Type 0} {cmp : K → K → Ordering} (total : IsTotalOrder cmp) wh
 
   -- ---- a set is settled by the first that compares alike with each q
 
+  -- behind the same first element the others are settled so
   same_tails : (x : K) (xs ys : List K) → AllByRecursion (λ z. cmp x z ≡ Less) xs
       → AllByRecursion (λ z. cmp x z ≡ Less) ys
       → ((q : K) → first_alike q (x ∷ xs) ≡ first_alike q (x ∷ ys)) → (q : K) → first_alike q xs ≡ first_alike q ys
@@ -106,6 +112,7 @@ module _ {K : Type 0} {cmp : K → K → Ordering} (total : IsTotalOrder cmp) wh
           ∙ sym (first_alike_same q x ys is ∙ first_alike_none x ys above_ys)
       by_answer Greater is = sym (behind Greater is refl xs) ∙ same q ∙ behind Greater is refl ys
 
+  -- the first elements are the same
   same_heads : (x y : K) (xs ys : List K) → IsSet cmp (x ∷ xs) → IsSet cmp (y ∷ ys)
       → ((q : K) → first_alike q (x ∷ xs) ≡ first_alike q (y ∷ ys)) → x ≡ y
   unfolding IsStrictlySortedBy
@@ -127,6 +134,7 @@ module _ {K : Type 0} {cmp : K → K → Ordering} (total : IsTotalOrder cmp) wh
           let above = below_all total y x xs less s.0 in
           let none : None ≡ Some y = sym (first_alike_none y (x ∷ xs) (less, above)) ∙ found_back in cc
 
+  -- so the sets are
   same_firsts : (xs ys : List K) → IsSet cmp xs → IsSet cmp ys → ((q : K) → first_alike q xs ≡ first_alike q ys)
       → xs ≡ ys
   unfolding IsStrictlySortedBy
@@ -144,6 +152,7 @@ module _ {K : Type 0} {cmp : K → K → Ordering} (total : IsTotalOrder cmp) wh
 
   -- ---- which is the first after each word
 
+  -- an element put in is the first where there was none
   first_insert : (q k : K) (xs : List K) → IsSet cmp xs
       → first_alike q (insert_key cmp xs k) ≡ option_or (first_alike q xs) (cond (eq_by_cmp cmp q k) (Some k) None)
   unfolding IsStrictlySortedBy
@@ -158,6 +167,7 @@ module _ {K : Type 0} {cmp : K → K → Ordering} (total : IsTotalOrder cmp) wh
       first_alike_first q x xs (total.congr q k x (is_equal (cmp q k) alike) ∙ equal)))
       (λ _. or_later (eq_by_cmp cmp q x) x _ _ _ (first_insert q k xs s.1))
 
+  -- of a list put in, the first is where there was none
   first_with_all : (q : K) (xs ys : List K) → IsSet cmp xs
       → first_alike q (with_all cmp xs ys) ≡ option_or (first_alike q xs) (first_alike q ys)
   first_with_all q xs [] s = sym (or_none (first_alike q xs))
@@ -166,9 +176,11 @@ module _ {K : Type 0} {cmp : K → K → Ordering} (total : IsTotalOrder cmp) wh
       ∙ ap (λ (o : Option K). option_or o (first_alike q ys)) (first_insert q y xs s)
       ∙ or_step (first_alike q xs) (eq_by_cmp cmp q y) y (first_alike q ys)
 
+  -- a list put in order keeps the first
   first_ordered : (q : K) (xs : List K) → first_alike q (ordered cmp xs) ≡ first_alike q xs
   first_ordered q xs = first_with_all q [] xs (IsSet-ordered total [])
 
+  -- a stable sort keeps the first
   first_stable : (q : K) (xs ys : List K) → IsStable cmp xs ys → first_alike q ys ≡ first_alike q xs
   first_stable q xs ys stable =
       sym (find_filter (eq_by_cmp cmp q) ys) ∙ ap (find (eq_by_cmp cmp q)) same ∙ find_filter (eq_by_cmp cmp q) xs
@@ -185,6 +197,7 @@ module _ {K : Type 0} {cmp : K → K → Ordering} (total : IsTotalOrder cmp) wh
       same = subst (λ (test : K → Bool). filter test ys ≡ filter test xs) (λ i x. ties_alike x i) (stable q)
 
   module _ {E : K → K → Bool} (decides : (x y : K) → E x y ≡ eq_by_cmp cmp x y) where
+    -- `dedup` keeps the first, k before xs
     first_dedup_from : (q k : K) (xs : List K) → first_alike q (dedup_from E k xs) ≡ first_alike q (k ∷ xs)
     first_dedup_from q k [] = refl
     first_dedup_from q k (x ∷ xs) =
@@ -194,6 +207,7 @@ module _ {K : Type 0} {cmp : K → K → Ordering} (total : IsTotalOrder cmp) wh
         (sym (alike_right total x k q (is_equal (cmp x k) (sym (decides x k) ∙ alike)))))
         (λ _. ap (λ (o : Option K). cond (eq_by_cmp cmp q k) (Some k) o) (first_dedup_from q x xs))
 
+    -- `dedup` keeps the first
     first_dedup : (q : K) (xs : List K) → first_alike q (dedup E xs) ≡ first_alike q xs
     first_dedup q [] = refl
     first_dedup q (x ∷ xs) = first_dedup_from q x xs
