@@ -2,6 +2,8 @@ pub mod Bindings
 pub mod Facts
 pub mod InstanceOrder
 pub mod Order
+pub mod OrderLaws
 pub mod Refusals
+pub mod SetLaws
 pub mod Sets
 pub mod Writing
