@@ -40,8 +40,9 @@ rises_filter test low [] rises = tt
 rises_filter test low (p ∷ ps) rises =
     let rest : RisesFrom p.0 (filter test ps) = rises_filter test p.0 ps rises.1 in
     elim (test p) as (λ b. RisesFrom low (cond b (p ∷ filter test ps) (filter test ps))) [
-      true ↦ (rises.0, rest)
-    | false ↦ rises_lower low p.0 (filter test ps) rises.0 rest ]
+      | true ↦ (rises.0, rest)
+      | false ↦ rises_lower low p.0 (filter test ps) rises.0 rest
+    ]
 
 rises_binding : (low : ℕ) (ps : List (ℕ × Const)) → RisesFrom low ps → IsBinding ps
 rises_binding low [] rises = tt
@@ -52,5 +53,6 @@ binding_filter test [] is = tt
 binding_filter test (p ∷ ps) is =
     let rest : RisesFrom p.0 (filter test ps) = rises_filter test p.0 ps is in
     elim (test p) as (λ b. IsBinding (cond b (p ∷ filter test ps) (filter test ps))) [
-      true ↦ rest
-    | false ↦ rises_binding p.0 (filter test ps) rest ]
+      | true ↦ rest
+      | false ↦ rises_binding p.0 (filter test ps) rest
+    ]

@@ -49,7 +49,7 @@ of_both (Some c) (Some d) f = f c d
 abbrev pub after_decl : List Fact → Decl → Scope → Option Scope
 after_decl w (Slot var object slot) scope =
     option_map (λ c. record { row = bound scope.row var c; made = scope.made })
-        (of_both (value_of scope.row object) (value_of scope.row slot) (least_value w))
+    (of_both (value_of scope.row object) (value_of scope.row slot) (least_value w))
 after_decl w (New var) scope =
     if nat_lt scope.made (2 ^ 63)
     then Some (record { row = bound scope.row var (Fresh scope.made); made = scope.made + 1 })

@@ -80,7 +80,8 @@ in_turn (step ∷ steps) rows = in_turn steps (step rows)
 abbrev pub equal_row : Term → Term → Row → Option Row
 equal_row a b row = elim (value_of row b) [
   | Some d ↦ match_term row a d
-  | None ↦ option_and_then (match_term row b) (value_of row a) ]
+  | None ↦ option_and_then (match_term row b) (value_of row a)
+]
 
 -- whether a predicate holds of the terms' values
 abbrev pub holds_at : Pred → Option (List Const) → Bool

@@ -29,7 +29,12 @@ pub fn rows_through(
 {
     match formula {
         Formula::And(members) => rows_through_each(alloc, facts, members.as_slice(), rows),
-        Formula::Or(branches) => rows_through_any(alloc, facts, branches.as_slice(), rows.as_slice()),
+        Formula::Or(branches) => rows_through_any(
+            alloc,
+            facts,
+            branches.as_slice(),
+            rows.as_slice(),
+        ),
         Formula::Not(inner) => rows_outside(alloc, facts, inner.get(), rows.as_slice()),
         Formula::Exists(vars, inner) => {
             let found = rows_through(alloc, facts, inner.get(), rows)?;
@@ -165,7 +170,11 @@ fn rows_through_slots(
 {
     let mut found = rows;
     for pair in pairs {
-        let pattern = Pattern::Slot(object.copy(alloc)?, pair.0.copy(alloc)?, pair.1.copy(alloc)?);
+        let pattern = Pattern::Slot(
+            object.copy(alloc)?,
+            pair.0.copy(alloc)?,
+            pair.1.copy(alloc)?,
+        );
         found = rows_matching(alloc, facts, &pattern, found.as_slice())?;
     }
     Ok(found)
@@ -182,11 +191,7 @@ fn copy_terms(alloc: Global, terms: &[Term]) -> Result<Items<Term>, OutOfMemory>
 }
 
 // The rows without some variables.
-fn rows_without(
-    alloc: Global,
-    vars: &[u32],
-    rows: &[Binding],
-) -> Result<Vec<Binding>, OutOfMemory>
+fn rows_without(alloc: Global, vars: &[u32], rows: &[Binding]) -> Result<Vec<Binding>, OutOfMemory>
     ensures { IfOk result (λ found. found.items ≡ map (without_variables vars.now) rows.now) }
 {
     let mut all = Vec::new(alloc);

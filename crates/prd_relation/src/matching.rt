@@ -106,7 +106,11 @@ pub fn term_match(
 fn row_where(row: &Binding, agrees: bool) -> Result<Option<Binding>, OutOfMemory>
     ensures { IfOk result (λ found. found ≡ (if agrees then Some row.now else None)) }
 {
-    if agrees { Ok(Some(row.copy()?)) } else { Ok(None) }
+    if agrees {
+        Ok(Some(row.copy()?))
+    } else {
+        Ok(None)
+    }
 }
 
 /// Whether two constants are the same.

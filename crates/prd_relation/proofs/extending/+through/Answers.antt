@@ -11,5 +11,5 @@ rows_through-returns-in-Or t c =
 pub rows_outside-loop-row-preserved : goal.rows_outside-loop-row-preserved
 rows_outside-loop-row-preserved t c =
     kept_step (λ row. length (through c.args.facts.now c.args.inner.now (row ∷ [])) == 0) c.args.rows.now c.loop-row.row-index c.row-item.result
-        c.in_ok-kept.kept c.loop-row.all.items c.push_kept.new.all.items c.loop-row-test.true c.row-item.is c.in_ok-kept.ensures
-        c.loop-row.invariant c.in_ok-push_kept.ensures
+    c.in_ok-kept.kept c.loop-row.all.items c.push_kept.new.all.items c.loop-row-test.true c.row-item.is c.in_ok-kept.ensures
+    c.loop-row.invariant c.in_ok-push_kept.ensures

@@ -8,4 +8,4 @@ use Rattle.prd_relation.proofs.values.row_without.Goals as goal
 pub from_pairs-requires : goal.from_pairs-requires
 from_pairs-requires c =
     subst IsBinding (sym (c.in_ok-pairs.ensures ∙ ap (without_variables c.args.vars.now) c.pairs.ensures.pairs))
-        (binding_filter (λ pair. not (list_any (λ v. v == pair.0) c.args.vars.now)) c.args.row.now c.pairs.ensures.rising)
+    (binding_filter (λ pair. not (list_any (λ v. v == pair.0) c.args.vars.now)) c.args.row.now c.pairs.ensures.rising)

@@ -9,4 +9,4 @@ pub from_pairs-requires : goal.from_pairs-requires
 from_pairs-requires c =
     let longer = λ (row : List (ℕ × Const)). bound row c.args.var c.args.constant.now in
     subst IsBinding (sym (c.in_ok-pairs.ensures ∙ ap longer c.pairs.ensures.pairs))
-        (binding_bound c.args.row.now c.args.var c.args.constant.now c.pairs.ensures.rising c.requires)
+    (binding_bound c.args.row.now c.args.var c.args.constant.now c.pairs.ensures.rising c.requires)
