@@ -1,22 +1,34 @@
 -- What a call on a source in memory moves.
 use Rattle.std.proofs.Common.{◌≡◌, ℕ, ◌+◌, ◌-◌, ◌<◌, ◌≤◌, min, List, [], ◌++◌, length, take, drop, ap, sym, ◌∙◌, arith, length-append, length-drop}
-use Rattle.std.proofs.lemmas.List.{take-append-drop, length-take, length-take-le, take_at, drop-drop}
+use Rattle.std.proofs.lemmas.List.{take-append-drop, length-take-le, take_at, drop-drop}
 use Rattle.std.proofs.Math.ListN.{drop_of_length-le}
 
--- the bytes at the place are those at the front of the buffer, and those behind them
-pub copied_is_front : (count at : ℕ) (bytes buf copied : List ℕ) → at + count ≤ length bytes → copied ≡ take (at + count - at) (drop at bytes) → drop at bytes ≡ take count (copied ++ drop count buf) ++ drop (at + count) bytes
-copied_is_front count at bytes buf copied inside copied_is =
-    let count_is : at + count - at ≡ count = omega arith in
-    let is_taken : copied ≡ take count (drop at bytes) = copied_is ∙ ap (λ n. take n (drop at bytes)) count_is in
-    let copied_length : length copied ≡ count = ap length is_taken ∙ length-take-le count (drop at bytes) (omega (arith, length-drop at bytes)) in
-    sym (take-append-drop count (drop at bytes))
-    ∙ (ap (λ front. front ++ drop count (drop at bytes)) (sym (take_at copied (drop count buf) count copied_length ∙ is_taken))
-      ∙ ap (λ rest. take count (copied ++ drop count buf) ++ rest) (drop-drop count at bytes))
+-- Of the bytes, `count` were copied from the place `at` to the front of a buffer, in a call that moves at
+-- most `piece` bytes.
+module _ (piece at count : ℕ) (bytes buf copied : List ℕ)
+    (some_piece : 0 < piece)
+    (inside : at ≤ length bytes)
+    (count_is : count ≡ min (min piece (length buf)) (length bytes - at))
+    (copied_is : copied ≡ take (at + count - at) (drop at bytes)) where
+  front_is : copied ≡ take count (drop at bytes)
+  front_is =
+      let same_count : at + count - at ≡ count = omega arith in
+      copied_is ∙ ap (λ n. take n (drop at bytes)) same_count
 
--- no byte is moved into a buffer with room at the end alone
-pub none_moved_at_end : (count at piece room : ℕ) (bytes : List ℕ) → count ≡ min (min piece room) (length bytes - at) → 0 < piece → 0 < room → count ≡ 0 → drop (at + count) bytes ≡ []
-none_moved_at_end count at piece room bytes count_is some_piece some_room none = drop_of_length-le bytes (omega arith)
+  copied_length : length copied ≡ count
+  copied_length = ap length front_is ∙ length-take-le count (drop at bytes) (omega (arith, length-drop at bytes))
 
--- a buffer that isn't empty after nothing was copied into it wasn't empty before
-pub room_before : (count : ℕ) (buf copied : List ℕ) → length copied ≡ length (take count buf) → count ≡ 0 → 0 < length (copied ++ drop count buf) → 0 < length buf
-room_before count buf copied same_length none some = omega (arith, length-append copied (drop count buf), length-drop count buf, length-take count buf)
+  -- the bytes at the place are those at the buffer's front, and then those behind them
+  pub bytes_at_front : drop at bytes ≡ take count (copied ++ drop count buf) ++ drop (at + count) bytes
+  bytes_at_front =
+      let front : take count (copied ++ drop count buf) ≡ take count (drop at bytes) =
+      take_at copied (drop count buf) count copied_length ∙ front_is in
+      let rest : drop count (drop at bytes) ≡ drop (at + count) bytes = drop-drop count at bytes in
+      sym (take-append-drop count (drop at bytes)) ∙ cc
+
+  -- no byte is moved into a buffer that isn't empty at the end alone
+  pub none_at_end : count ≡ 0 → 0 < length (copied ++ drop count buf) → drop (at + count) bytes ≡ []
+  none_at_end none some =
+      let room : length (copied ++ drop count buf) ≡ length copied + length (drop count buf) =
+      length-append copied (drop count buf) in
+      drop_of_length-le bytes (omega (arith, copied_length, length-drop count buf))

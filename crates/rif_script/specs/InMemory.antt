@@ -6,6 +6,10 @@ use Rattle.std.specs.declared.result.Result.{Result}
 use Rattle.rif_script.specs.declared.failed.Failed.{Failed}
 use Rattle.rif_script.specs.declared.fault_plan.FaultPlan.{FaultPlan}
 
+-- the plan in which the calls of these numbers fail, before the first call
+abbrev pub fresh_plan : List ℕ → FaultPlan
+fresh_plan fail = record { fail = fail; calls = 0; faults = 0 }
+
 -- whether the number of the next call is in the plan, where the numbers end at 2 ^ 64 - 1
 abbrev pub is_next_planned : FaultPlan → Bool
 is_next_planned plan = nat_lt plan.calls (2 ^ 64 - 1) && list_any (λ number. number == plan.calls + 1) plan.fail
@@ -23,7 +27,7 @@ abbrev pub plan_after : FaultPlan → Bool → FaultPlan
 plan_after plan is_blocked = record {
   fail = plan.fail;
   calls = min (plan.calls + 1) (2 ^ 64 - 1);
-  faults = if is_failing plan is_blocked then plan.faults + 1 else plan.faults
+  faults = if is_failing plan is_blocked then plan.faults + 1 else plan.faults;
 }
 
 -- a source: what is left, the most bytes that one call gives, and the plan of its faults
@@ -45,7 +49,7 @@ abbrev pub source_after : MemorySource → ℕ → MemorySource
 source_after source room = record {
   left = if is_failing source.plan false then source.left else drop (taken_count source room) source.left;
   piece = source.piece;
-  plan = plan_after source.plan false
+  plan = plan_after source.plan false;
 }
 
 -- a sink: what was written, the room that is left, the most bytes that one call takes, and the plan of its faults
@@ -74,5 +78,5 @@ sink_after sink piece =
       written = sink.written ++ take count piece;
       room = sink.room - count;
       piece = sink.piece;
-      plan = plan_after sink.plan (is_full sink piece)
+      plan = plan_after sink.plan (is_full sink piece);
     }

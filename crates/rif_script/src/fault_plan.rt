@@ -15,11 +15,11 @@ pub struct FaultPlan {
 }
 
 impl FaultPlan {
-    ghost use Rattle.rif_script.specs.InMemory.{is_next_planned, plan_after, call_answer};
+    ghost use Rattle.rif_script.specs.InMemory.{fresh_plan, is_next_planned, call_answer, plan_after};
 
     /// The plan in which the calls of these numbers fail. It takes no memory.
     pub fn new(fail: Vec<u64>) -> FaultPlan
-        ensures { result ≡ record { fail = fail.items; calls = 0; faults = 0 } }
+        ensures { result ≡ fresh_plan fail.items }
     {
         FaultPlan {
             fail: Listed::from_vec(fail),

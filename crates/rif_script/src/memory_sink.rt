@@ -2,7 +2,7 @@ ghost use Rattle.std.specs.Prelude.{◌≡◌, ◌-◌, ◌<◌, ◌^◌, [], If
 ghost use Rattle.std.specs.Io.{WritesAtMost};
 ghost use Rattle.std.specs.Io.KnownBytes.{WriteAppends};
 ghost use Rattle.rif_script.specs.Faults.{CountsFaults};
-ghost use Rattle.rif_script.specs.InMemory.{give_answer, sink_after};
+ghost use Rattle.rif_script.specs.InMemory.{fresh_plan, give_answer, sink_after};
 
 use crate::failed::Failed;
 use crate::fault_plan::FaultPlan;
@@ -30,10 +30,10 @@ impl Model for MemSink {
     ghost Value = { MemorySink };
 
     ghost view = { λ sink. record {
-        written = sink.written.items;
-        room = sink.room;
-        piece = sink.piece;
-        plan = sink.plan
+      written = sink.written.items;
+      room = sink.room;
+      piece = sink.piece;
+      plan = sink.plan;
     } };
 
     ghost invariant = { λ sink.
@@ -51,10 +51,10 @@ impl MemSink {
     ) -> Result<MemSink, OutOfMemory>
         requires { 0 < piece }
         ensures { IfOk result (λ sink. sink ≡ record {
-            written = [];
-            room = room;
-            piece = piece;
-            plan = record { fail = fail.items; calls = 0; faults = 0 }
+          written = [];
+          room = room;
+          piece = piece;
+          plan = fresh_plan fail.items;
         }) }
     {
         Ok(MemSink {

@@ -2,7 +2,7 @@ ghost use Rattle.std.specs.Prelude.{◌≡◌, ◌-◌, ◌<◌, ◌^◌, [], Is
 ghost use Rattle.std.specs.Io.{ReadsAtMost};
 ghost use Rattle.std.specs.Io.KnownBytes.{ReadConsumes};
 ghost use Rattle.rif_script.specs.Faults.{CountsFaults};
-ghost use Rattle.rif_script.specs.InMemory.{take_answer, source_after};
+ghost use Rattle.rif_script.specs.InMemory.{fresh_plan, take_answer, source_after};
 
 use crate::failed::Failed;
 use crate::fault_plan::FaultPlan;
@@ -28,9 +28,9 @@ impl Model for MemSource {
     ghost Value = { MemorySource };
 
     ghost view = { λ source. record {
-        left = drop source.at source.bytes.items;
-        piece = source.piece;
-        plan = source.plan
+      left = drop source.at source.bytes.items;
+      piece = source.piece;
+      plan = source.plan;
     } };
 
     ghost invariant = { λ source. (source.at ≤ vec_len source.bytes) × (0 < source.piece) };
@@ -42,9 +42,9 @@ impl MemSource {
     pub fn new(bytes: Vec<u8>, piece: usize, fail: Vec<u64>) -> MemSource
         requires { 0 < piece }
         ensures { result ≡ record {
-            left = bytes.items;
-            piece = piece;
-            plan = record { fail = fail.items; calls = 0; faults = 0 }
+          left = bytes.items;
+          piece = piece;
+          plan = fresh_plan fail.items;
         } }
     {
         MemSource {

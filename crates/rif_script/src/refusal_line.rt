@@ -9,11 +9,7 @@ use std::alloc::Global;
 /// number, and the place or the rule that it names. After want of memory `out` is as before.
 ///
 /// Source: our own (docs/FORMATS.md, "Refusals").
-pub fn write_refusal(
-    alloc: Global,
-    out: &mut Vec<u8>,
-    refusal: &Refusal,
-) -> Result<(), OutOfMemory>
+pub fn write_refusal(alloc: Global, out: &mut Vec<u8>, refusal: &Refusal) -> Result<(), OutOfMemory>
     ensures ok { OnOk result (out.new.items ≡ out.old.items ++ refusal_line refusal.now) }
     ensures err { OnErr result (out.new.items ≡ out.old.items) }
 {
@@ -97,4 +93,43 @@ fn push_number(out: &mut Vec<u8>, label: &[u8], number: u64) -> Result<(), OutOf
     out.extend_from_slice(label)?;
     out.extend_from_slice(digits.format(number).as_bytes())?;
     Ok(())
+}
+
+#[cfg(test)]
+mod tests {
+    use super::*;
+    use std::test::Fail;
+
+    #[test]
+    fn each_form_has_its_line(rt: HostRuntime) -> Result<(), Fail> {
+        let name = Text::from_str(rt.alloc(), "x")?;
+        let what = Counted::Actions;
+        for (refusal, line) in [
+            (Refusal::InputTooLong, "refused 1\n"),
+            (Refusal::NotUtf8 { at: 17 }, "refused 2 at 17\n"),
+            (
+                Refusal::Expected { line: 3, col: 21 },
+                "refused 4 line 3 col 21\n",
+            ),
+            (
+                Refusal::TooMany {
+                    what,
+                    line: 2,
+                    col: 5,
+                },
+                "refused 13 actions line 2 col 5\n",
+            ),
+            (
+                Refusal::Unsafe { rule: 2, name },
+                "refused 16 rule 2 var ?x\n",
+            ),
+            (Refusal::BadLine { line: 9 }, "refused 17 line 9\n"),
+            (Refusal::TooManyBranches { rule: 1 }, "refused 21 rule 1\n"),
+        ] {
+            let mut out = Vec::new(rt.alloc());
+            write_refusal(rt.alloc(), &mut out, &refusal)?;
+            assert_eq!(rt; out.as_slice(), line.as_bytes());
+        }
+        Ok(())
+    }
 }

@@ -1,6 +1,4 @@
-ghost use Rattle.std.specs.Prelude.{◌≡◌, OnErr, OnOk, Some, None, IfSome, IfNone, length, ◌<◌, MatchOption};
-ghost use Rattle.std.specs.Io.{WritesAtMost};
-ghost use Rattle.std.specs.Io.KnownBytes.{Appends, Keeps};
+ghost use Rattle.std.specs.Prelude.{◌≡◌};
 ghost use Rattle.rif_script.specs.Standard.{flushed_bytes};
 
 use crate::failed::Failed;
@@ -32,13 +30,9 @@ impl<R: Read> Source for StdSource<R> {
     ghost faults = { λ source. source.faults };
 
     fn take(&mut self, buf: &mut [u8]) -> Result<usize, Failed> {
-        match self.reader.read(buf) {
-            Ok(count) => Ok(count),
-            Err(_) => {
-                self.faults += 1;
-                Err(Failed)
-            }
-        }
+        let answer = self.reader.read(buf).map_err(|_| Failed);
+        self.faults += u64::from(answer.is_err());
+        answer
     }
 }
 
@@ -74,18 +68,53 @@ impl<W: Write> Sink for StdSink<W> {
     ghost faults = { λ sink. sink.faults };
 
     fn give(&mut self, piece: &[u8]) -> Result<usize, Failed> {
-        if self.unflushed == 0 {
-            match self.writer.write(piece) {
-                Ok(count) if count > 0 || piece.is_empty() => {
-                    if self.writer.flush().is_ok() {
-                        return Ok(count);
-                    }
-                    self.unflushed = count;
-                }
-                _ => {}
+        if self.unflushed == 0
+            && let Ok(count) = self.writer.write(piece)
+            && (count > 0 || piece.is_empty())
+        {
+            if self.writer.flush().is_ok() {
+                return Ok(count);
             }
+            self.unflushed = count;
         }
         self.faults += 1;
         Err(Failed)
+    }
+}
+
+#[cfg(test)]
+mod tests {
+    use super::*;
+    use std::io;
+    use std::test::Fail;
+
+    /// A writer that takes bytes and can't flush them.
+    #[derive(Drop)]
+    struct Clogged;
+
+    impl Write for Clogged {
+        fn write(&mut self, buf: &[u8]) -> io::Result<usize> {
+            Ok(buf.len())
+        }
+
+        fn flush(&mut self) -> io::Result<()> {
+            Err(io::Error::from(io::ErrorKind::Other))
+        }
+    }
+
+    #[test]
+    fn bytes_go_through_and_a_failed_flush_is_a_fault(rt: HostRuntime) -> Result<(), Fail> {
+        let mut buf = [0u8; 4];
+        let mut source = StdSource::new(b"facts".as_slice());
+        assert_eq!(rt; source.take(&mut buf), Ok(4));
+        assert_eq!(rt; buf.as_slice(), b"fact".as_slice());
+        let mut written = Vec::new(rt.alloc());
+        let mut sink = StdSink::new(&mut written);
+        assert_eq!(rt; sink.give(b"facts"), Ok(5));
+        drop(sink);
+        assert_eq!(rt; written.as_slice(), b"facts".as_slice());
+        let mut clogged = StdSink::new(Clogged);
+        assert_eq!(rt; clogged.give(b"facts"), Err(Failed));
+        Ok(())
     }
 }
