@@ -1,3 +1,5 @@
+ghost use Rattle.std.specs.Prelude.{◌≡◌, codes, IfOk, IsUtf8};
+
 use rif_terms::{OutOfMemory, Text};
 use std::alloc::Global;
 use std::env::{Env, FillError};
@@ -28,7 +30,10 @@ fn word_at(rt: &impl Env, alloc: Global, place: usize) -> Result<Option<Text>, O
     Err(OutOfMemory)
 }
 
-fn text_of(alloc: Global, bytes: &[u8]) -> Result<Text, OutOfMemory> {
+fn text_of(alloc: Global, bytes: &[u8]) -> Result<Text, OutOfMemory>
+    ensures utf8 { IsUtf8 bytes.now → IfOk result (λ word. word ≡ bytes.now) }
+    ensures other { (IsUtf8 bytes.now → ⊥) → IfOk result (λ word. word ≡ codes "?") }
+{
     match str::from_utf8(bytes) {
         Ok(word) => Text::from_str(alloc, word),
         Err(_) => Text::from_str(alloc, "?"),
