@@ -12,7 +12,8 @@ pub fn write_text<K: Sink>(sink: &mut K, text: &[u8]) -> Result<(), Failed>
 {
     let mut at = 0;
     while at < text.len() {
-        at += sink.give(&text[at..])?;
+        let count = sink.give(&text[at..])?;
+        at += count;
     }
     Ok(())
 }

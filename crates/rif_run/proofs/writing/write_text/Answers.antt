@@ -6,10 +6,10 @@ use Rattle.rif_run.proofs.writing.write_text.Goals as goal
 pub loop-at-preserved : goal.loop-at-preserved
 loop-at-preserved g c =
     let at = c.loop-at.at in
-    let count = c.in_ok-at.field-0 in
+    let count = c.in_ok-count.count in
     let text = c.args.text.now in
     record {
-      within = omega (arith, length-take (length text - at) (drop at text), length-drop at text, c.in_ok-at.ensures.bound);
-      count_stands = c.in_ok-at.ensures.cause.stays ∙ c.loop-at.invariant.count_stands;
-      wrote_front = rw front_grows (appends_both _ _ _ _ _ c.loop-at.invariant.wrote_front c.in_ok-at.ensures.bytes);
+      within = omega (arith, length-take (length text - at) (drop at text), length-drop at text, c.in_ok-count.ensures.bound);
+      count_stands = c.in_ok-count.ensures.cause.stays ∙ c.loop-at.invariant.count_stands;
+      wrote_front = rw front_grows (appends_both _ _ _ _ _ c.loop-at.invariant.wrote_front c.in_ok-count.ensures.bytes);
     }
