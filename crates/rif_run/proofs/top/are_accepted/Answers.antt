@@ -1,4 +1,4 @@
-use Rattle.std.proofs.Common.{codes, length, arith}
+use Rattle.std.proofs.Common.{codes, arith}
 use Rattle.rif_run.proofs.WordLemmas.{same_word_alone}
 use Rattle.rif_run.proofs.top.are_accepted.Goals as goal
 
