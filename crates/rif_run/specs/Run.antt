@@ -16,19 +16,18 @@ AreAccepted words = words ≡ codes "run" ∷ []
 abbrev pub most_bytes_read : ℕ
 most_bytes_read = 4194305
 
--- the input was read of a source, and the text was written to a sink: what the two told before and after
-pub record WritesAnswer (status : Status) (left left' written written' : Option (List ℕ)) : Type 0 where
+-- an input was read of the source, and this text with this status is the answer to it
+pub record ReadsAnswer (left left' : Option (List ℕ)) (status : Status) (text : List ℕ) : Type 0 where
   pub input : List ℕ
   pub read : ReadsFront most_bytes_read left left' input
-  pub text : List ℕ
   pub answers : Answers input status text
-  pub wrote : Appends written written' text
 
--- the input was read of a source, and a front of the text was written to a sink
-pub record WritesFrontOfAnswer (left left' written written' : Option (List ℕ)) : Type 0 where
-  pub input : List ℕ
-  pub read : ReadsFront most_bytes_read left left' input
-  pub status : Status
-  pub text : List ℕ
-  pub answers : Answers input status text
-  pub wrote : WritesFront written written' text
+-- such a text was written to the sink
+abbrev pub WritesAnswer : Status → Option (List ℕ) → Option (List ℕ) → Option (List ℕ) → Option (List ℕ) → Type 0
+WritesAnswer status left left' written written' =
+    (text : List ℕ) × ReadsAnswer left left' status text × Appends written written' text
+
+-- the first bytes of such a text were written to the sink
+abbrev pub WritesFrontOfAnswer : Option (List ℕ) → Option (List ℕ) → Option (List ℕ) → Option (List ℕ) → Type 0
+WritesFrontOfAnswer left left' written written' =
+    (status : Status) × (text : List ℕ) × ReadsAnswer left left' status text × WritesFront written written' text

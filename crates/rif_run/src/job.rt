@@ -4,7 +4,7 @@ ghost use Rattle.rif_run.specs.Job.{IsFault, IsRunText};
 use rif_terms::{Fault, Refusal};
 use std::alloc::Global;
 
-/// The text of the run of a job, or why there is none.
+/// The text of the run of a job, or why there is none. So far each input is refused at its start.
 #[tactic(auto, unfolding(crate::specs::Job::IsRefusal))]
 pub fn run_text(alloc: Global, bytes: &[u8]) -> Result<Vec<u8>, Fault>
     ensures { MatchResult result (λ text. IsRunText bytes.now text.items) (IsFault bytes.now) }

@@ -1,4 +1,4 @@
-ghost use Rattle.std.specs.Prelude.{◌≡◌, ◌-◌, ◌<◌, ◌^◌, IfOk, IsErrOf, IsOkUnless, OnOk, length, vec_len};
+ghost use Rattle.std.specs.Prelude.{◌≡◌, ◌-◌, ◌<◌, ◌^◌, IfOk, IsErrOf, IsOkUnless, OnOk, vec_len};
 ghost use Rattle.rif_run.specs.Reading.{ReadsFront};
 
 use rif_script::{Failed, Source};
@@ -43,30 +43,19 @@ impl From<AllocError> for ReadError {
     }
 }
 
-/// Reads the input to its end, or its first `MOST_BYTES_READ` bytes. The memory grows with the input.
-pub fn read_input<S: Source>(alloc: Global, source: &mut S) -> Result<Vec<u8>, ReadError>
-    requires { S.faults source.old < 2 ^ 64 - 1 }
-    ensures read { IfOk result (λ input. ReadsFront MOST_BYTES_READ (S.left source.old) (S.left source.new) input.items) }
-    ensures kept { OnOk result (S.faults source.new ≡ S.faults source.old) }
-    ensures failed { IsErrOf result ReadError.Failed → S.faults source.old < S.faults source.new }
-{
-    let mut chunk = zeros(alloc, CHUNK_BYTES)?;
-    read_up_to(alloc, source, chunk.as_mut_slice(), MOST_BYTES_READ)
-}
-
-/// Reads to the end, or the first `most` bytes, by way of the chunk.
-fn read_up_to<S: Source>(
+/// Reads to the source's end, or its first `most` bytes. The memory grows with the input.
+pub fn read_up_to<S: Source>(
     alloc: Global,
     source: &mut S,
-    chunk: &mut [u8],
     most: usize,
 ) -> Result<Vec<u8>, ReadError>
-    requires count { S.faults source.old < 2 ^ 64 - 1 }
-    requires room { 0 < length chunk.old }
+    requires { S.faults source.old < 2 ^ 64 - 1 }
     ensures read { IfOk result (λ input. ReadsFront most (S.left source.old) (S.left source.new) input.items) }
-    ensures kept { OnOk result (S.faults source.new ≡ S.faults source.old) }
+    ensures stands { OnOk result (S.faults source.new ≡ S.faults source.old) }
     ensures failed { IsErrOf result ReadError.Failed → S.faults source.old < S.faults source.new }
 {
+    let mut zeros = zeros(alloc, CHUNK_BYTES)?;
+    let chunk = zeros.as_mut_slice();
     let mut input = Vec::new(alloc);
     while input.len() < most {
         let room = chunk.len().min(most - input.len());
@@ -80,7 +69,7 @@ fn read_up_to<S: Source>(
 }
 
 fn zeros(alloc: Global, count: usize) -> Result<Vec<u8>, ReadError>
-    ensures length { IfOk result (λ zeros. vec_len zeros ≡ count) }
+    ensures len { IfOk result (λ zeros. vec_len zeros ≡ count) }
     ensures cause { IsOkUnless result ReadError.OutOfMemory }
 {
     Ok(vec![in alloc; 0u8; count]?)

@@ -3,7 +3,7 @@ ghost use Rattle.rif_run.specs.Answers.{IsAnswered};
 ghost use Rattle.rif_run.specs.Run.{AreAccepted, WritesAnswer, WritesFrontOfAnswer};
 
 use crate::answer::answer_to;
-use crate::reading::{ReadError, read_input};
+use crate::reading::{MOST_BYTES_READ, ReadError, read_up_to};
 use crate::status::Status;
 use crate::writing::write_text;
 use rif_script::{Sink, Source};
@@ -41,7 +41,7 @@ pub fn rif_run<S: Source, K: Sink>(
     if !are_accepted(words) {
         return Status::Usage;
     }
-    let input = match read_input(alloc, src) {
+    let input = match read_up_to(alloc, src, MOST_BYTES_READ) {
         Ok(input) => input,
         Err(ReadError::Failed) => return Status::ReadFault,
         Err(ReadError::OutOfMemory) => return Status::OutOfMemory,
