@@ -7,15 +7,6 @@ use Rattle.rif_run.specs.declared.status.Status.{Status}
 use Rattle.rif_run.specs.declared.status.Status.TheVariants.{Done, Refused, Usage, ReadFault, WriteFault, OutOfMemory}
 use Rattle.rif_run.specs.Job.{IsRunText, IsRefusal}
 
--- the status says that the input was answered
-abbrev pub IsAnswered : Status → Type 0
-IsAnswered Done = Unit {0}
-IsAnswered Refused = Unit {0}
-IsAnswered Usage = ⊥
-IsAnswered ReadFault = ⊥
-IsAnswered WriteFault = ⊥
-IsAnswered OutOfMemory = ⊥
-
 -- the answer to the input is this text with this status
 abbrev pub Answers : List ℕ → Status → List ℕ → Type 0
 Answers input Done text = IsRunText input text

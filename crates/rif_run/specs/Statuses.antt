@@ -1,4 +1,4 @@
--- The exit statuses of the program.
+-- How a run of the program ends.
 -- Source: the project's own (docs/FORMATS.md, "Statuses").
 use Rattle.std.specs.Prelude.{ℕ}
 use Rattle.rif_run.specs.declared.status.Status.{Status}
@@ -12,3 +12,12 @@ status_code Usage = 2
 status_code ReadFault = 3
 status_code WriteFault = 4
 status_code OutOfMemory = 5
+
+-- the status says that the input was answered
+abbrev pub IsAnswered : Status → Type 0
+IsAnswered Done = Unit {0}
+IsAnswered Refused = Unit {0}
+IsAnswered Usage = ⊥
+IsAnswered ReadFault = ⊥
+IsAnswered WriteFault = ⊥
+IsAnswered OutOfMemory = ⊥

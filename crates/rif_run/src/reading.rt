@@ -50,7 +50,8 @@ pub fn read_up_to<S: Source>(
     most: usize,
 ) -> Result<Vec<u8>, ReadError>
     requires { S.faults source.old < 2 ^ 64 - 1 }
-    ensures read { IfOk result (λ input. ReadsFront most (S.left source.old) (S.left source.new) input.items) }
+    ensures read { IfOk result (λ input.
+        ReadsFront most (S.left source.old) (S.left source.new) input.items) }
     ensures stands { OnOk result (S.faults source.new ≡ S.faults source.old) }
     ensures failed { IsErrOf result ReadError.Failed → S.faults source.old < S.faults source.new }
 {

@@ -1,5 +1,5 @@
-ghost use Rattle.std.specs.Prelude.{◌≡◌};
-ghost use Rattle.rif_run.specs.Statuses.{status_code};
+ghost use Rattle.std.specs.Prelude.{◌≡◌, ◌↔◌, IsNone};
+ghost use Rattle.rif_run.specs.Statuses.{IsAnswered, status_code};
 
 /// How a run ends.
 ///
@@ -36,7 +36,9 @@ impl Status {
     }
 
     /// The line for standard error, without its line feed. A run that wrote its answer has none.
-    pub fn message(self) -> Option<&'static str> {
+    pub fn message(self) -> Option<&'static str>
+        ensures { IsNone result ↔ IsAnswered self }
+    {
         match self {
             Status::Done | Status::Refused => None,
             Status::Usage => Some("usage: rif_run run"),

@@ -1,6 +1,6 @@
 ghost use Rattle.std.specs.Prelude.{◌≡◌, ◌-◌, ◌<◌, ◌^◌, ◌↔◌, IsTrue};
-ghost use Rattle.rif_run.specs.Answers.{IsAnswered};
 ghost use Rattle.rif_run.specs.Run.{AreAccepted, WritesAnswer, WritesFrontOfAnswer};
+ghost use Rattle.rif_run.specs.Statuses.{IsAnswered};
 
 use crate::answer::answer_to;
 use crate::reading::{MOST_BYTES_READ, ReadError, read_up_to};
@@ -27,9 +27,11 @@ pub fn rif_run<S: Source, K: Sink>(
     requires sink_count { K.faults out.old < 2 ^ 64 - 1 }
     ensures usage { (result ≡ Status.Usage) ↔ (AreAccepted words.now.items → ⊥) }
     ensures untouched { result ≡ Status.Usage → (src.new ≡ src.old) × (out.new ≡ out.old) }
-    ensures read_fault { result ≡ Status.ReadFault → (S.faults src.old < S.faults src.new) × (out.new ≡ out.old) }
+    ensures read_fault { result ≡ Status.ReadFault →
+        (S.faults src.old < S.faults src.new) × (out.new ≡ out.old) }
     ensures out_of_memory { result ≡ Status.OutOfMemory → out.new ≡ out.old }
-    ensures write_fault { result ≡ Status.WriteFault → (K.faults out.old < K.faults out.new)
+    ensures write_fault { result ≡ Status.WriteFault →
+        (K.faults out.old < K.faults out.new)
         × WritesFrontOfAnswer (S.left src.old) (S.left src.new) (K.written out.old) (K.written out.new) }
 
     // After `Done` and `Refused` both counts of faults stand, and the answer's text was written whole.

@@ -1,5 +1,6 @@
 -- What a call on a source in memory moves.
-use Rattle.std.proofs.Common.{◌≡◌, ℕ, ◌+◌, ◌-◌, ◌<◌, ◌≤◌, min, List, [], ◌++◌, length, take, drop, ap, sym, ◌∙◌, arith, length-append, length-drop}
+use Rattle.std.proofs.Common.{◌≡◌, ℕ, ◌+◌, ◌-◌, ◌<◌, ◌≤◌, min, List, [], ◌++◌, length, take, drop, ap, sym, ◌∙◌}
+use Rattle.std.proofs.Common.{arith, length-append, length-drop}
 use Rattle.std.proofs.lemmas.List.{take-append-drop, length-take-le, take_at, drop-drop}
 use Rattle.std.proofs.Math.ListN.{drop_of_length-le}
 
@@ -21,14 +22,12 @@ module _ (piece at count : ℕ) (bytes buf copied : List ℕ)
   -- the bytes at the place are those at the buffer's front, and then those behind them
   pub bytes_at_front : drop at bytes ≡ take count (copied ++ drop count buf) ++ drop (at + count) bytes
   bytes_at_front =
-      let front : take count (copied ++ drop count buf) ≡ take count (drop at bytes) =
-      take_at copied (drop count buf) count copied_length ∙ front_is in
-      let rest : drop count (drop at bytes) ≡ drop (at + count) bytes = drop-drop count at bytes in
+      let front = take_at copied (drop count buf) count copied_length ∙ front_is in
+      let rest = drop-drop count at bytes in
       sym (take-append-drop count (drop at bytes)) ∙ cc
 
   -- no byte is moved into a buffer that isn't empty at the end alone
   pub none_at_end : count ≡ 0 → 0 < length (copied ++ drop count buf) → drop (at + count) bytes ≡ []
   none_at_end none some =
-      let room : length (copied ++ drop count buf) ≡ length copied + length (drop count buf) =
-      length-append copied (drop count buf) in
+      let room = length-append copied (drop count buf) in
       drop_of_length-le bytes (omega (arith, copied_length, length-drop count buf))

@@ -69,7 +69,8 @@ is_full sink piece = (sink.room == 0) && nat_lt 0 (length piece)
 
 -- what a call answers
 abbrev pub give_answer : MemorySink → List ℕ → Result ℕ Failed
-give_answer sink piece = if is_failing sink.plan (is_full sink piece) then Err record {} else Ok (given_count sink piece)
+give_answer sink piece =
+    if is_failing sink.plan (is_full sink piece) then Err record {} else Ok (given_count sink piece)
 
 -- the sink after it
 abbrev pub sink_after : MemorySink → List ℕ → MemorySink
