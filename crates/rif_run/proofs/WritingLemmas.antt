@@ -16,10 +16,11 @@ module _ (first second : List ℕ) where
   appends_both (Some xs) (Some ys) (Some zs) a b =
       b ∙ (ap (λ front. front ++ second) a ∙ append_assoc xs first second)
 
--- the front that was written, and then a front of the rest
 module _ (at count : ℕ) (text : List ℕ) where
+  -- all that is left of a text
+  rest_is_all : take (length text - at) (drop at text) ≡ drop at text
+  rest_is_all = take_all (length text - at) (drop at text) (omega (arith, length-drop at text))
+
+  -- the front that was written, and then a front of the rest
   pub front_grows : take (at + count) text ≡ take at text ++ take count (take (length text - at) (drop at text))
-  front_grows =
-      let rest : take (length text - at) (drop at text) ≡ drop at text =
-      take_all (length text - at) (drop at text) (omega (arith, length-drop at text)) in
-      take-add at count text ∙ ap (λ left. take at text ++ take count left) (sym rest)
+  front_grows = take-add at count text ∙ ap (λ rest. take at text ++ take count rest) (sym rest_is_all)

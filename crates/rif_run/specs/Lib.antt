@@ -1,4 +1,4 @@
-pub mod Answers
+pub mod Answer
 pub mod Job
 pub mod Reading
 pub mod Run

@@ -4,7 +4,7 @@ use Rattle.std.specs.Prelude.{◌≡◌, ℕ, List, [], ◌∷◌, codes}
 use Rattle.std.specs.Io.KnownBytes.{Appends}
 use Rattle.std.specs.declared.option.Option.{Option}
 use Rattle.rif_run.specs.declared.status.Status.{Status}
-use Rattle.rif_run.specs.Answers.{Answers}
+use Rattle.rif_run.specs.Answer.{Answers}
 use Rattle.rif_run.specs.Reading.{ReadsFront}
 use Rattle.rif_run.specs.Writing.{WritesFront}
 

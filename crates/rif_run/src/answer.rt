@@ -1,6 +1,6 @@
 ghost use Rattle.std.specs.Prelude.{◌≡◌, IfOk};
 ghost use Rattle.rif_script.specs.RefusalLine.{refusal_line};
-ghost use Rattle.rif_run.specs.Answers.{Answers};
+ghost use Rattle.rif_run.specs.Answer.{Answers};
 
 use crate::job::run_text;
 use crate::status::Status;

@@ -7,7 +7,7 @@
 //! | `status.rt` | `Status`, how a run ends | `specs/Statuses.antt` |
 //! | `reading.rt` | the input, read to its end or to its limit | `specs/Reading.antt` |
 //! | `writing.rt` | a text, written whole | `specs/Writing.antt` |
-//! | `answer.rt` | `Answer`, what is written for an input | `specs/Answers.antt` |
+//! | `answer.rt` | `Answer`, what is written for an input | `specs/Answer.antt` |
 //! | `job.rt` | the text of a run from the bytes of a job | `specs/Job.antt` |
 //!
 //! Begin at `top::rif_run`.

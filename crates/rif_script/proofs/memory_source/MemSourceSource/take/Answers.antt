@@ -16,10 +16,9 @@ returns-clause-bytes c =
     let some : 0 < piece = c.self.invariant.1 in
     let inside : at ≤ length bytes = omega (arith, source.bytes.ok.0) in
     let count_is : count ≡ min (min piece (length buf)) (length bytes - at) = omega (arith, source.bytes.ok.0) in
-    let copied_is : copied ≡ take (at + count - at) (drop at bytes) =
-    cc (c.deref.ensures.value, c.copy_from_slice.ensures.after) in
-    let left_is : c.args.self.now.left ≡ drop at bytes =
-    ap (λ (value : MemorySource). value.left) (sym c.self.view_is) in (
+    let read = c.deref.ensures.value in
+    let copied_is : copied ≡ take (at + count - at) (drop at bytes) = cc (read, c.copy_from_slice.ensures.after) in
+    let left_is = ap (λ (value : MemorySource). value.left) (sym c.self.view_is) in (
       left_is ∙ bytes_at_front piece at count bytes buf copied some inside count_is copied_is,
       none_at_end piece at count bytes buf copied some inside count_is copied_is,
     )
