@@ -1,0 +1,23 @@
+-- How a run of the program ends.
+-- Source: the project's own (docs/FORMATS.md, "Statuses").
+use Rattle.std.specs.Prelude.{ℕ}
+use Rattle.rif_run.specs.declared.status.Status.{Status}
+use Rattle.rif_run.specs.declared.status.Status.TheVariants.{Done, Refused, Usage, ReadFault, WriteFault, OutOfMemory}
+
+-- what the process ends with
+abbrev pub status_code : Status → ℕ
+status_code Done = 0
+status_code Refused = 1
+status_code Usage = 2
+status_code ReadFault = 3
+status_code WriteFault = 4
+status_code OutOfMemory = 5
+
+-- the status says that the input was answered
+abbrev pub IsAnswered : Status → Type 0
+IsAnswered Done = Unit {0}
+IsAnswered Refused = Unit {0}
+IsAnswered Usage = ⊥
+IsAnswered ReadFault = ⊥
+IsAnswered WriteFault = ⊥
+IsAnswered OutOfMemory = ⊥

@@ -1,0 +1,41 @@
+ghost use Rattle.std.specs.Prelude.{◌≡◌, IfOk};
+ghost use Rattle.rif_script.specs.RefusalLine.{refusal_line};
+ghost use Rattle.rif_run.specs.Answer.{Answers};
+
+use crate::job::run_text;
+use crate::status::Status;
+use rif_script::write_refusal;
+use rif_terms::{Fault, OutOfMemory, Refusal};
+use std::alloc::Global;
+
+/// What is written for an input, and the status that says so.
+#[derive(Drop)]
+pub struct Answer {
+    pub status: Status,
+    pub text: Vec<u8>,
+}
+
+/// The answer to an input: the text of its run with `Done`, or the line of its refusal with `Refused`.
+pub fn answer_to(alloc: Global, input: &[u8]) -> Result<Answer, OutOfMemory>
+    ensures { IfOk result (λ answer. Answers input.now answer.status answer.text.items) }
+{
+    match run_text(alloc, input) {
+        Ok(text) => Ok(Answer {
+            status: Status::Done,
+            text,
+        }),
+        Err(Fault::Refused(refusal)) => Ok(Answer {
+            status: Status::Refused,
+            text: refusal_text(alloc, &refusal)?,
+        }),
+        Err(Fault::OutOfMemory) => Err(OutOfMemory),
+    }
+}
+
+fn refusal_text(alloc: Global, refusal: &Refusal) -> Result<Vec<u8>, OutOfMemory>
+    ensures { IfOk result (λ text. text.items ≡ refusal_line refusal.now) }
+{
+    let mut text = Vec::new(alloc);
+    write_refusal(alloc, &mut text, refusal)?;
+    Ok(text)
+}

@@ -1,0 +1,73 @@
+use crate::status::Status;
+use crate::top::rif_run;
+use rif_script::{MemSink, MemSource, Source};
+use rif_terms::{OutOfMemory, Text};
+use std::alloc::{AllocError, Global};
+use std::test::Fail;
+
+fn texts(alloc: Global, words: &[&str]) -> Result<Vec<Text>, OutOfMemory> {
+    let mut texts = Vec::new(alloc);
+    for word in words {
+        texts.push(Text::from_str(alloc, word)?)?;
+    }
+    Ok(texts)
+}
+
+fn spaces(alloc: Global, count: usize) -> Result<Vec<u8>, AllocError> {
+    vec![in alloc; b' '; count]
+}
+
+#[test]
+fn a_failing_third_read_is_a_read_fault(rt: HostRuntime) -> Result<(), Fail> {
+    let alloc = rt.alloc();
+    let words = texts(alloc, &["run"])?;
+    let mut source = MemSource::new(spaces(alloc, 64)?, 16, vec![in alloc; 3]?);
+    let mut sink = MemSink::new(alloc, 64, 64, Vec::new(alloc))?;
+    let status = rif_run(alloc, &words, &mut source, &mut sink);
+    assert_eq!(rt; status, Status::ReadFault);
+    assert!(rt; sink.bytes().is_empty());
+    Ok(())
+}
+
+#[test]
+fn a_failing_second_write_is_a_write_fault(rt: HostRuntime) -> Result<(), Fail> {
+    let alloc = rt.alloc();
+    let words = texts(alloc, &["run"])?;
+    let mut source = MemSource::new(spaces(alloc, 64)?, 16, Vec::new(alloc));
+    let mut sink = MemSink::new(alloc, 64, 8, vec![in alloc; 2]?)?;
+    let status = rif_run(alloc, &words, &mut source, &mut sink);
+    assert_eq!(rt; status, Status::WriteFault);
+    assert_eq!(rt; sink.bytes(), b"refused ".as_slice());
+    Ok(())
+}
+
+/// The status with a source that fails at its first call, and a sink without room: a read or a write
+/// would show.
+fn status_without_ends(alloc: Global, words: &[&str]) -> Result<Status, OutOfMemory> {
+    let words = texts(alloc, words)?;
+    let mut source = MemSource::new(spaces(alloc, 64)?, 16, vec![in alloc; 1]?);
+    let mut sink = MemSink::new(alloc, 0, 8, Vec::new(alloc))?;
+    Ok(rif_run(alloc, &words, &mut source, &mut sink))
+}
+
+#[test]
+fn other_words_read_and_write_nothing(rt: HostRuntime) -> Result<(), Fail> {
+    let alloc = rt.alloc();
+    assert_eq!(rt; status_without_ends(alloc, &["run", "now"])?, Status::Usage);
+    assert_eq!(rt; status_without_ends(alloc, &[])?, Status::Usage);
+    assert_eq!(rt; status_without_ends(alloc, &["--help"])?, Status::Usage);
+    Ok(())
+}
+
+#[test]
+fn a_long_input_is_cut(rt: HostRuntime) -> Result<(), Fail> {
+    let alloc = rt.alloc();
+    let words = texts(alloc, &["run"])?;
+    let mut source = MemSource::new(spaces(alloc, 4_194_310)?, 1_000_000, Vec::new(alloc));
+    let mut sink = MemSink::new(alloc, 64, 64, Vec::new(alloc))?;
+    let status = rif_run(alloc, &words, &mut source, &mut sink);
+    assert!(rt; status == Status::Refused);
+    let mut buf = [0u8; 8];
+    assert_eq!(rt; source.take(&mut buf), Ok(5));
+    Ok(())
+}
