@@ -1,0 +1,22 @@
+//! Jobs, the batches that they are cut into, and the text of a run.
+//!
+//! | File | Has | Its words |
+//! |---|---|---|
+//! | `job.rt` | `Job`, a document and the items of its clients | |
+//! | `cutting.rt` | `batches_of`, the batches of a job for one thread | `specs/Cutting.antt` |
+//! | `lines.rt` | the lines of items | `specs/Lines.antt` |
+//! | `trace.rt` | `write_run`, the text of a run | `specs/Trace.antt` |
+//!
+//! Begin at `write_run`.
+#![tactic(auto)]
+
+
+mod job;
+mod lines;
+mod trace;
+
+
+
+pub use job::Job;
+pub use trace::write_run;
+
