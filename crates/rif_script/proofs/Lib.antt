@@ -1,1 +1,3 @@
+pub mod CuttingLemmas
 pub mod PiecesLemmas
+pub mod RankLemmas

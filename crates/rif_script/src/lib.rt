@@ -11,12 +11,14 @@
 #![tactic(auto)]
 
 
+mod cutting;
 mod job;
 mod lines;
 mod trace;
 
 
 
+pub use cutting::batches_of;
 pub use job::Job;
 pub use trace::write_run;
 

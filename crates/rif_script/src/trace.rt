@@ -3,7 +3,7 @@ ghost use Rattle.std.specs.Prelude.{◌≡◌, ◌++◌, ◌<◌, ◌≤◌, All
 ghost use Rattle.std.specs.List.{flat_map};
 ghost use Rattle.rif_script.specs.Lines.{entry_line};
 ghost use Rattle.rif_terms.specs.Bindings.{value_at};
-ghost use Rattle.rif_script.specs.Trace.{CanBePrinted, IsPrintable, IsPickOf, AreBound, forall_vars, bound_text, var_text, act_word, pick_text, fact_line, effect_text, act_text, turn_text, turns_text, is_fired as is_fired_act, firing_count, end_line, run_text};
+ghost use Rattle.rif_script.specs.Trace.{CanBePrinted, IsPrintable, IsPickOf, AreBound, forall_vars, bound_text, var_text, act_word, pick_text, fact_line, effect_text, act_text, turn_text, turns_text, firing_count, end_line, run_text};
 
 use crate::job::Job;
 use crate::lines::{name, push_entry_lines, push_number};
@@ -184,18 +184,9 @@ fn firings(turns: &[Turn]) -> usize
 {
     let mut count = 0;
     for turn in turns {
-        if is_fired(turn.act) {
+        if let Some(Act::Fired) = turn.act {
             count += 1;
         }
     }
     count
-}
-
-fn is_fired(act: Option<Act>) -> bool
-    ensures { result ≡ is_fired_act act }
-{
-    match act {
-        Some(Act::Fired) => true,
-        _ => false,
-    }
 }
