@@ -31,7 +31,7 @@ joined_first-alone entry (e ∷ begun) = ap (with_first entry) (joined_first-alo
 abbrev pub batches_after : List (List Entry) → List Entry → List Entry → List (List Entry)
 batches_after done begun entries = done ++ joined_first begun (batches_behind (length begun) entries)
 
-goes_on : (done : List (List Entry)) (begun : List Entry) (entry : Entry) (entries : List Entry) → ends_behind (length begun) entry.item ≡ false →
+pub goes_on : (done : List (List Entry)) (begun : List Entry) (entry : Entry) (entries : List Entry) → ends_behind (length begun) entry.item ≡ false →
     batches_after done (begun ++ entry ∷ []) entries ≡ batches_after done begun (entry ∷ entries)
 goes_on done begun entry entries h =
     let more : length (begun ++ entry ∷ []) ≡ length begun + 1 = length-append begun (entry ∷ []) in
@@ -39,7 +39,7 @@ goes_on done begun entry entries h =
     ∙ ap (λ (bs : List (List Entry)). done ++ bs) (joined_first-snoc begun entry (batches_behind (length begun + 1) entries))
     ∙ ap (λ (b : Bool). done ++ joined_first begun (cond b ((entry ∷ []) ∷ batches_behind 0 entries) (with_first entry (batches_behind (length begun + 1) entries)))) (sym h)
 
-closes : (done : List (List Entry)) (begun : List Entry) (entry : Entry) (entries : List Entry) → ends_behind (length begun) entry.item ≡ true →
+pub closes : (done : List (List Entry)) (begun : List Entry) (entry : Entry) (entries : List Entry) → ends_behind (length begun) entry.item ≡ true →
     batches_after (done ++ (begun ++ entry ∷ []) ∷ []) [] entries ≡ batches_after done begun (entry ∷ entries)
 closes done begun entry entries h =
     append_assoc done ((begun ++ entry ∷ []) ∷ []) (batches_behind 0 entries)
@@ -89,7 +89,7 @@ abbrev pub AreChanges : List Entry → Type 0
 AreChanges [] = Unit {0}
 AreChanges (entry ∷ entries) = (is_control entry.item ≡ false) × AreChanges entries
 
-AreChanges-snoc : (begun : List Entry) (entry : Entry) → AreChanges begun → is_control entry.item ≡ false → AreChanges (begun ++ entry ∷ [])
+pub AreChanges-snoc : (begun : List Entry) (entry : Entry) → AreChanges begun → is_control entry.item ≡ false → AreChanges (begun ++ entry ∷ [])
 AreChanges-snoc [] entry changes h = (h, tt)
 AreChanges-snoc (e ∷ begun) entry changes h = (changes.0, AreChanges-snoc begun entry changes.1 h)
 
@@ -118,7 +118,7 @@ lawful_closed begun batch entry room changes pushed =
 pub lawful_begun : (begun : List Entry) → length begun < MOST_BATCH_ITEMS → AreChanges begun → IsLawful begun
 lawful_begun begun room changes = record { few = omega arith; ends_last = changes_last begun changes }
 
-neither : (a b : Bool) → (a || b) ≡ false → (a ≡ false) × (b ≡ false)
+pub neither : (a b : Bool) → (a || b) ≡ false → (a ≡ false) × (b ≡ false)
 neither true b h = cc
 neither false b h = (refl, h)
 

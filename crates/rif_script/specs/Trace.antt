@@ -99,9 +99,13 @@ run_text job turns left facts = turns_text job 1 turns ++ flat_map (entry_line (
 abbrev pub AreOfClients : Job → List Entry → Type 0
 AreOfClients job entries = All (λ entry. entry.client < length job.names) entries
 
--- the variables have names in the rule and values in the row
+-- the variable has a name in the rule and a value in the row
+pub record IsBound (rule : Rule) (row : List (ℕ × Const)) (var : ℕ) : Type 0 where
+  pub named : var < length rule.names
+  pub valued : IsSome (value_at row var)
+
 abbrev pub AreBound : Rule → List (ℕ × Const) → List ℕ → Type 0
-AreBound rule row vars = All (λ var. (var < length rule.names) × IsSome (value_at row var)) vars
+AreBound rule row vars = All (IsBound rule row) vars
 
 -- the pick is of one of the document's rules, and its row binds the rule's `Forall` variables
 pub record IsPickOf (doc : Doc) (pick : Instance) : Type 0 where

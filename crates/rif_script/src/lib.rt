@@ -5,20 +5,20 @@
 //! | `job.rt` | `Job`, a document and the items of its clients | |
 //! | `cutting.rt` | `batches_of`, the batches of a job for one thread | `specs/Cutting.antt` |
 //! | `lines.rt` | the lines of items | `specs/Lines.antt` |
+//! | `laws.rt` | what the cut keeps | `specs/CuttingLaws.antt` |
 //! | `trace.rt` | `write_run`, the text of a run | `specs/Trace.antt` |
 //!
 //! Begin at `write_run`.
 #![tactic(auto)]
 
-
 mod cutting;
 mod job;
+pub mod laws;
 mod lines;
+#[cfg(test)]
+mod tests;
 mod trace;
-
-
 
 pub use cutting::batches_of;
 pub use job::Job;
 pub use trace::write_run;
-

@@ -111,12 +111,7 @@ fn push_row(out: &mut Vec<u8>, rule: &Rule, row: &Binding) -> Result<(), OutOfMe
     Ok(())
 }
 
-fn push_vars(
-    out: &mut Vec<u8>,
-    rule: &Rule,
-    row: &Binding,
-    vars: &[u32],
-) -> Result<(), OutOfMemory>
+fn push_vars(out: &mut Vec<u8>, rule: &Rule, row: &Binding, vars: &[u32]) -> Result<(), OutOfMemory>
     requires { AreBound rule.now row.now vars.now }
     ensures { OnOk result (out.new.items ≡ out.old.items ++ flat_map (var_text rule.now row.now) vars.now) }
 {

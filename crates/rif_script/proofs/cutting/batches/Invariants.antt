@@ -10,5 +10,5 @@ invariant-loop-entry l = record {
   counted : length (into_iter_items l.entry-iterator) ≡ into_iter_len l.entry-iterator;
   cut : batches_after l.batches.items l.open (into_iter_items l.entry-iterator) ≡ batches_behind 0 l.fn.entries.items;
   room : length l.open < MOST_BATCH_ITEMS;
-  changes : AreChanges l.open
+  changes : AreChanges l.open;
 }
