@@ -15,6 +15,7 @@ use std::test::Fail;
 
 /// A run of one rule: its names and levels, the items, what each turn shows, the number of facts at the
 /// end, and the text.
+#[derive(Clone, Copy)]
 struct Run<'a> {
     names: &'a [&'a str],
     levels: &'a [&'a [u32]],
@@ -25,7 +26,7 @@ struct Run<'a> {
 }
 
 impl Run<'_> {
-    fn test(&self, rt: &impl Abort, alloc: Global) -> Result<(), Fail> {
+    fn test(self, rt: &impl Abort, alloc: Global) -> Result<(), Fail> {
         let job = job(alloc, self.names, self.levels, items(alloc, self.items)?)?;
         assert!(rt; has_its_clients(&job));
         let (batches, left) = batches_of(alloc, &job)?;
