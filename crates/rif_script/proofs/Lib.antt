@@ -3,3 +3,4 @@ pub mod LawLemmas
 pub mod PiecesLemmas
 pub mod RankLemmas
 pub mod ScriptLemmas
+pub mod TraceLemmas

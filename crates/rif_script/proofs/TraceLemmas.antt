@@ -79,7 +79,7 @@ same_lines word goes job before (x ∷ xs) (y ∷ ys) u v r q j g f f2 h k e =
     let b = append_assoc (line y) (flat_map line ys) q in
     let whole : line x ++ (flat_map line xs ++ r) ≡ line y ++ (flat_map line ys ++ q) = sym a ∙ (e ∙ b) in
     let spelled : word ++ 32 ∷ line_rest job x (flat_map line xs ++ r) ≡ word ++ 32 ∷ line_rest job y (flat_map line ys ++ q) =
-      sym (entry_line-rest word job x (flat_map line xs ++ r)) ∙ (whole ∙ entry_line-rest word job y (flat_map line ys ++ q)) in
+    sym (entry_line-rest word job x (flat_map line xs ++ r)) ∙ (whole ∙ entry_line-rest word job y (flat_map line ys ++ q)) in
     let behind = append_cancel_left word _ _ spelled in
     let inner = append_cancel_left (32 ∷ []) _ _ behind in
     let entry : x ≡ y = same_entry job before x y (xs ++ u) (ys ++ v) _ _ j h k inner in
@@ -153,13 +153,13 @@ same_from job turn_of k done before (b ∷ bs) (c ∷ cs) left right r q j a h k
     let second = text_from-cons job k other others c right q (a.takes done c) in
     let lines = append_cancel_left (turn_line k) _ _ (sym first ∙ (e ∙ second)) in
     let shown : begins_in (act_text job.doc turn ++ text_from job (suc k) turns left r) ≡ false =
-      shown_otherwise turn.act (pick_text job.doc turn.pick) (codes "\n") (effect_text turn.effect) (text_from job (suc k) turns left r) (a.settled done b) in
+    shown_otherwise turn.act (pick_text job.doc turn.pick) (codes "\n") (effect_text turn.effect) (text_from job (suc k) turns left r) (a.settled done b) in
     let shown2 : begins_in (act_text job.doc other ++ text_from job (suc k) others right q) ≡ false =
-      shown_otherwise other.act (pick_text job.doc other.pick) (codes "\n") (effect_text other.effect) (text_from job (suc k) others right q) (a.settled done c) in
+    shown_otherwise other.act (pick_text job.doc other.pick) (codes "\n") (effect_text other.effect) (text_from job (suc k) others right q) (a.settled done c) in
     let split = same_lines (codes "in") begins_in job before b c (joined bs left) (joined cs right) _ _ j (λ rest. refl) shown shown2 h k' lines in
     let batch : b ≡ c = split.0 in
     let acts : act_text job.doc turn ++ text_from job (suc k) turns left r ≡ act_text job.doc turn ++ text_from job (suc k) (turns_behind turn_of (done ++ b ∷ []) cs) right q =
-      split.1 ∙ ap (λ (x : List Entry). act_text job.doc (turn_of done x) ++ text_from job (suc k) (turns_behind turn_of (done ++ x ∷ []) cs) right q) (sym batch) in
+    split.1 ∙ ap (λ (x : List Entry). act_text job.doc (turn_of done x) ++ text_from job (suc k) (turns_behind turn_of (done ++ x ∷ []) cs) right q) (sym batch) in
     let rest = append_cancel_left (act_text job.doc turn) _ _ acts in
     let h2 = continue_later job before b (joined bs left) h in
     let k2 = continue_later job before b (joined cs right) (subst (λ (x : List Entry). Continue job before (x ++ joined cs right)) (sym batch) k') in

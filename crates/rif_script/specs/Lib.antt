@@ -2,3 +2,4 @@ pub mod Lines
 pub mod Trace
 pub mod Cutting
 pub mod CuttingLaws
+pub mod TraceLaws

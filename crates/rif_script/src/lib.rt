@@ -5,7 +5,7 @@
 //! | `job.rt` | `Job`, a document and the items of its clients | |
 //! | `cutting.rt` | `batches_of`, the batches of a job for one thread | `specs/Cutting.antt` |
 //! | `lines.rt` | the lines of items | `specs/Lines.antt` |
-//! | `laws.rt` | what the cut keeps | `specs/CuttingLaws.antt` |
+//! | `laws.rt` | what the cut keeps, and what a text determines | `specs/CuttingLaws.antt`, `specs/TraceLaws.antt` |
 //! | `trace.rt` | `write_run`, the text of a run | `specs/Trace.antt` |
 //!
 //! Begin at `write_run`.

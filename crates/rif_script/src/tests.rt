@@ -6,7 +6,7 @@ mod values;
 use crate::batches_of;
 use checks::has_its_clients;
 use rif_terms::{Listed, OutOfMemory};
-use runs::{discount, disposed, invoice, levels_and_items, no_budget, resting, same_value, void};
+use runs::{discount, disposed, invoice, levels_and_items, no_budget, resting, same_value};
 use session_states::Item;
 use std::alloc::Global;
 use std::process::Abort;
@@ -24,7 +24,6 @@ fn a_run_has_its_text(rt: HostRuntime) -> Result<(), Fail> {
     discount(&rt, alloc)?;
     no_budget(&rt, alloc)?;
     same_value(&rt, alloc)?;
-    void(&rt, alloc)?;
     disposed(&rt, alloc)?;
     resting(&rt, alloc)?;
     invoice(&rt, alloc)?;

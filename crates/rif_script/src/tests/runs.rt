@@ -122,25 +122,6 @@ pub fn same_value(rt: &impl Abort, alloc: Global) -> Result<(), Fail> {
     .test(rt, alloc)
 }
 
-/// A sum that is out of range makes the block void.
-pub fn void(rt: &impl Abort, alloc: Global) -> Result<(), Fail> {
-    Run {
-        names: &["x"],
-        levels: &[&[0]],
-        items: &[
-            (0, Assert(Atom(Local("p"), Int(9_223_372_036_854_775_807)))),
-            (0, Fire(5)),
-        ],
-        shown: &[
-            Shown::void(Int(9_223_372_036_854_775_807), None),
-            Shown::act(Act::StoppedQuiet),
-        ],
-        facts: 1,
-        text: "turn 1\nin a assert _p(9223372036854775807)\nin a fire 5\nfired 1 ?x=9223372036854775807\nvoid\nturn 2\nquiet\nend turns 2 firings 1 facts 1\n",
-    }
-    .test(rt, alloc)
-}
-
 /// An item behind a Dispose is left.
 pub fn disposed(rt: &impl Abort, alloc: Global) -> Result<(), Fail> {
     Run {
