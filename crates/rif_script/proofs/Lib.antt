@@ -1,1 +1,7 @@
+pub mod CuttingLemmas
+pub mod LawLemmas
+pub mod PiecesLemmas
+pub mod RankLemmas
+pub mod ScriptLemmas
 pub mod TakingLemmas
+pub mod TraceLemmas

@@ -1,4 +1,9 @@
+pub mod Cutting
+pub mod CuttingLaws
 pub mod Faults
 pub mod InMemory
+pub mod Lines
 pub mod RefusalLine
 pub mod Standard
+pub mod Trace
+pub mod TraceLaws

@@ -1,32 +1,45 @@
-//! Where the bytes of a run come from and go to, and the texts that a run writes.
+//! Jobs, the text of a run, and where the bytes of both come from and go to.
 //!
 //! | File | Has | Its words |
 //! |---|---|---|
-//! | `source.rt` | `Source`, what gives bytes | `specs/Faults.antt` |
-//! | `sink.rt` | `Sink`, what takes bytes | `specs/Faults.antt` |
+//! | `job.rt` | `Job`, a document and the items of its clients | |
+//! | `cutting.rt` | `batches_of`, the batches of a job for one thread | `specs/Cutting.antt` |
+//! | `lines.rt` | the lines of items | `specs/Lines.antt` |
+//! | `trace.rt` | `write_run`, the text of a run: a trace line is made here | `specs/Trace.antt` |
+//! | `refusal_line.rt` | `write_refusal`, the line of a refused input | `specs/RefusalLine.antt` |
+//! | `laws.rt` | what the cut keeps, and what a text determines | `specs/CuttingLaws.antt`, `specs/TraceLaws.antt` |
+//! | `source.rt`, `sink.rt` | `Source` and `Sink`, what gives bytes and what takes them | `specs/Faults.antt` |
 //! | `failed.rt` | `Failed`, a call that moved no byte | |
-//! | `memory_source.rt` | `MemSource`, a source in memory | `specs/InMemory.antt` |
-//! | `memory_sink.rt` | `MemSink`, a sink in memory | `specs/InMemory.antt` |
+//! | `memory_source.rt`, `memory_sink.rt` | `MemSource` and `MemSink`, the two in memory | `specs/InMemory.antt` |
 //! | `fault_plan.rt` | which calls on a form in memory fail | `specs/InMemory.antt` |
 //! | `standard.rt` | `StdSource` and `StdSink`, over std's readers and writers | `specs/Standard.antt` |
-//! | `refusal_line.rt` | `write_refusal`, the line of a refused input | `specs/RefusalLine.antt` |
 //!
-//! Begin at `Source` and `Sink`.
+//! Begin at `write_run`, and for input and output at `Source` and `Sink`.
 #![tactic(auto)]
 
+mod cutting;
 mod failed;
 mod fault_plan;
+mod job;
+pub mod laws;
+mod lines;
 mod memory_sink;
 mod memory_source;
 mod refusal_line;
 mod sink;
 mod source;
 mod standard;
+#[cfg(test)]
+mod tests;
+mod trace;
 
+pub use cutting::batches_of;
 pub use failed::Failed;
+pub use job::Job;
 pub use memory_sink::MemSink;
 pub use memory_source::MemSource;
 pub use refusal_line::write_refusal;
 pub use sink::Sink;
 pub use source::Source;
 pub use standard::{StdSink, StdSource};
+pub use trace::write_run;

@@ -1,0 +1,124 @@
+-- The text of a run.
+--     turn_text job k turn             a turn with its number
+--     turns_text job k turns           turns with the numbers from one on
+--     run_text job turns left facts    the text of a run
+--     CanBePrinted job turns left      the turns and the entries that are left may be those of a run of the job
+-- Source: the project's own (docs/FORMATS.md, "The trace").
+use Rattle.std.specs.Prelude.{suc, ◌≤◌, ◌<◌, ℕ, ◌-◌, Bool, true, false, List, [], ◌∷◌, ◌++◌, All, Some, None, IsSome, IfSome, codes, count_by, decimal, length, slice_get}
+use Rattle.std.specs.List.{flat_map}
+use Rattle.std.specs.declared.option.Option.{Option}
+use Rattle.rif_terms.specs.declared.constant.Const.{Const}
+use Rattle.rif_terms.specs.declared.fact.Fact.{Fact}
+use Rattle.rif_terms.specs.declared.instance.Instance.{Instance}
+use Rattle.rif_terms.specs.declared.rule.Doc.{Doc}
+use Rattle.rif_terms.specs.declared.rule.Rule.{Rule}
+use Rattle.rif_terms.specs.Bindings.{value_at}
+use Rattle.rif_terms.specs.Writing.{const_text, fact_text}
+use Rattle.session_states.specs.declared.item.Entry.{Entry}
+use Rattle.session_states.specs.declared.turn.Act.{Act}
+use Rattle.session_states.specs.declared.turn.Act.TheVariants.{Idle, Halted, Disposed, Fired, StoppedQuiet, StoppedLimit, Resting}
+use Rattle.session_states.specs.declared.turn.Effect.{Effect}
+use Rattle.session_states.specs.declared.turn.Effect.TheVariants.{None as Unchanged, Void, Net}
+use Rattle.session_states.specs.declared.turn.Turn.{Turn}
+use Rattle.rif_script.specs.declared.job.Job.{Job}
+use Rattle.rif_script.specs.Lines.{name_at, entry_line}
+
+-- the `Forall` variables of a rule, in order of declaration
+abbrev pub forall_vars : Rule → List ℕ
+forall_vars rule = flat_map (λ level. level.vars) rule.levels
+
+-- the rule of a number, counted from 1
+abbrev pub rule_at : Doc → ℕ → Option Rule
+rule_at doc n = slice_get doc.rules (n - 1)
+
+-- what a variable is bound to, where it is
+abbrev pub bound_text : Option Const → List ℕ
+bound_text None = []
+bound_text (Some c) = const_text c
+
+-- a variable's name and value
+abbrev pub var_text : Rule → List (ℕ × Const) → ℕ → List ℕ
+var_text rule row var = codes " ?" ++ name_at rule.names var ++ codes "=" ++ bound_text (value_at row var)
+
+-- the values of a rule's `Forall` variables
+abbrev pub row_text : Option Rule → List (ℕ × Const) → List ℕ
+row_text None row = []
+row_text (Some rule) row = flat_map (var_text rule row) (forall_vars rule)
+
+abbrev pub act_word : Option Act → List ℕ
+act_word None = []
+act_word (Some Idle) = codes "idle"
+act_word (Some Halted) = codes "halted"
+act_word (Some Disposed) = codes "disposed"
+act_word (Some Fired) = codes "fired"
+act_word (Some StoppedQuiet) = codes "quiet"
+act_word (Some StoppedLimit) = codes "limit"
+act_word (Some Resting) = codes "rest"
+
+abbrev pub pick_text : Doc → Option Instance → List ℕ
+pick_text doc None = []
+pick_text doc (Some pick) = codes " " ++ decimal pick.rule ++ row_text (rule_at doc pick.rule) pick.row
+
+abbrev pub fact_line : List ℕ → Fact → List ℕ
+fact_line sign fact = sign ++ fact_text fact ++ codes "\n"
+
+-- the facts that were removed, and then those that were added
+abbrev pub effect_text : Effect → List ℕ
+effect_text Unchanged = []
+effect_text Void = codes "void\n"
+effect_text (Net delta) = flat_map (fact_line (codes "- ")) delta.removed ++ flat_map (fact_line (codes "+ ")) delta.added
+
+-- what a turn's act, pick and effect show
+abbrev pub act_text : Doc → Turn → List ℕ
+act_text doc turn = act_word turn.act ++ pick_text doc turn.pick ++ codes "\n" ++ effect_text turn.effect
+
+abbrev pub turn_text : Job → ℕ → Turn → List ℕ
+turn_text job k turn =
+    (codes "turn " ++ decimal k ++ codes "\n") ++ flat_map (entry_line (codes "in") job.names) turn.batch ++ act_text job.doc turn
+
+abbrev pub turns_text : Job → ℕ → List Turn → List ℕ
+turns_text job k [] = []
+turns_text job k (turn ∷ turns) = turn_text job k turn ++ turns_text job (suc k) turns
+
+abbrev pub is_fired : Option Act → Bool
+is_fired (Some Fired) = true
+is_fired _ = false
+
+-- how many of the turns are firings
+abbrev pub firing_count : List Turn → ℕ
+firing_count = count_by (λ turn. is_fired turn.act)
+
+abbrev pub end_line : List Turn → ℕ → List ℕ
+end_line turns facts =
+    codes "end turns " ++ decimal (length turns) ++ codes " firings " ++ decimal (firing_count turns) ++ codes " facts " ++ decimal facts ++ codes "\n"
+
+abbrev pub run_text : Job → List Turn → List Entry → ℕ → List ℕ
+run_text job turns left facts = turns_text job 1 turns ++ flat_map (entry_line (codes "left") job.names) left ++ end_line turns facts
+
+-- the entries are of the job's clients
+abbrev pub AreOfClients : Job → List Entry → Type 0
+AreOfClients job entries = All (λ entry. entry.client < length job.names) entries
+
+-- the variable has a name in the rule and a value in the row
+pub record IsBound (rule : Rule) (row : List (ℕ × Const)) (var : ℕ) : Type 0 where
+  pub named : var < length rule.names
+  pub valued : IsSome (value_at row var)
+
+abbrev pub AreBound : Rule → List (ℕ × Const) → List ℕ → Type 0
+AreBound rule row vars = All (IsBound rule row) vars
+
+-- the pick is of one of the document's rules, and its row binds the rule's `Forall` variables
+pub record IsPickOf (doc : Doc) (pick : Instance) : Type 0 where
+  pub from_one : 1 ≤ pick.rule
+  pub in_document : pick.rule ≤ length doc.rules
+  pub bound : IfSome (rule_at doc pick.rule) (λ rule. AreBound rule pick.row (forall_vars rule))
+
+-- the turn has its act, its entries are of the job's clients, and its pick is of the job's document
+pub record IsPrintable (job : Job) (turn : Turn) : Type 0 where
+  pub settled : IsSome turn.act
+  pub clients : AreOfClients job turn.batch
+  pub pick : IfSome turn.pick (IsPickOf job.doc)
+
+pub record CanBePrinted (job : Job) (turns : List Turn) (left : List Entry) : Type 0 where
+  pub turns_are : All (IsPrintable job) turns
+  pub left_are : AreOfClients job left

@@ -1,0 +1,30 @@
+//! Laws of the definitions: functions without parameters, whose bodies are empty.
+ghost use Rattle.rif_script.specs.CuttingLaws.{CutEndsBatches, CutIsLawful, CutKeepsAll, EntriesFollowScripts};
+ghost use Rattle.rif_script.specs.TraceLaws.{SameTextSameRun};
+
+/// Law: the batches of a script joined, and then what is left, are all its entries in order.
+pub fn cut_keeps_all()
+    ensures { CutKeepsAll }
+{}
+
+/// Law: each batch of a script is lawful and not empty, and none follows one that ends in a Dispose.
+pub fn cut_is_lawful()
+    ensures { CutIsLawful }
+{}
+
+/// Law: a control item ends its batch, and a batch before the last ends in one or is full.
+pub fn cut_ends_batches()
+    ensures { CutEndsBatches }
+{}
+
+/// Law: a client's entries are its items in order, with the ranks 0, 1, 2 and so on.
+pub fn entries_follow_scripts()
+    ensures { EntriesFollowScripts }
+{}
+
+/// Law: two runs of a job that have the same text have the same batches, and so the same turns, and the
+/// same entries left. Each turn is a function of the batches up to it, and the clients' entries follow
+/// their scripts.
+pub fn same_text_same_run()
+    ensures { SameTextSameRun }
+{}
