@@ -2,7 +2,6 @@
 --     turn_text job k turn             a turn with its number
 --     turns_text job k turns           turns with the numbers from one on
 --     run_text job turns left facts    the text of a run
---     CanBePrinted job turns left      the turns and the entries that are left may be those of a run of the job
 -- Source: the project's own (docs/FORMATS.md, "The trace").
 use Rattle.std.specs.Prelude.{suc, ◌≤◌, ◌<◌, ℕ, ◌-◌, Bool, true, false, List, [], ◌∷◌, ◌++◌, All, Some, None, IsSome, IfSome, codes, count_by, decimal, length, slice_get}
 use Rattle.std.specs.List.{flat_map}
@@ -94,31 +93,3 @@ end_line turns facts =
 
 abbrev pub run_text : Job → List Turn → List Entry → ℕ → List ℕ
 run_text job turns left facts = turns_text job 1 turns ++ flat_map (entry_line (codes "left") job.names) left ++ end_line turns facts
-
--- the entries are of the job's clients
-abbrev pub AreOfClients : Job → List Entry → Type 0
-AreOfClients job entries = All (λ entry. entry.client < length job.names) entries
-
--- the variable has a name in the rule and a value in the row
-pub record IsBound (rule : Rule) (row : List (ℕ × Const)) (var : ℕ) : Type 0 where
-  pub named : var < length rule.names
-  pub valued : IsSome (value_at row var)
-
-abbrev pub AreBound : Rule → List (ℕ × Const) → List ℕ → Type 0
-AreBound rule row vars = All (IsBound rule row) vars
-
--- the pick is of one of the document's rules, and its row binds the rule's `Forall` variables
-pub record IsPickOf (doc : Doc) (pick : Instance) : Type 0 where
-  pub from_one : 1 ≤ pick.rule
-  pub in_document : pick.rule ≤ length doc.rules
-  pub bound : IfSome (rule_at doc pick.rule) (λ rule. AreBound rule pick.row (forall_vars rule))
-
--- the turn has its act, its entries are of the job's clients, and its pick is of the job's document
-pub record IsPrintable (job : Job) (turn : Turn) : Type 0 where
-  pub settled : IsSome turn.act
-  pub clients : AreOfClients job turn.batch
-  pub pick : IfSome turn.pick (IsPickOf job.doc)
-
-pub record CanBePrinted (job : Job) (turns : List Turn) (left : List Entry) : Type 0 where
-  pub turns_are : All (IsPrintable job) turns
-  pub left_are : AreOfClients job left

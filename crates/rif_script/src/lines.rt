@@ -1,5 +1,5 @@
 //! The lines of items, as clients write them and as a run shows them.
-ghost use Rattle.std.specs.Prelude.{◌≡◌, ◌++◌, ◌<◌, All, OnOk, decimal, length};
+ghost use Rattle.std.specs.Prelude.{◌≡◌, ◌++◌, OnOk, decimal};
 ghost use Rattle.std.specs.List.{flat_map};
 ghost use Rattle.rif_script.specs.Lines.{name_at, change_text, item_text, entry_text, entry_line};
 
@@ -17,7 +17,6 @@ pub fn push_entry_lines(
     names: &[Text],
     entries: &[Entry],
 ) -> Result<(), OutOfMemory>
-    requires { All (λ entry. entry.client < length names.now) entries.now }
     ensures { OnOk result (out.new.items ≡ out.old.items ++ flat_map (entry_line word.now names.now) entries.now) }
 {
     for entry in entries {
@@ -30,22 +29,20 @@ pub fn push_entry_lines(
 }
 
 fn push_entry(out: &mut Vec<u8>, names: &[Text], entry: &Entry) -> Result<(), OutOfMemory>
-    requires { entry.now.client < length names.now }
     ensures { OnOk result (out.new.items ≡ out.old.items ++ entry_text names.now entry.now) }
 {
-    out.extend_from_slice(name(names, entry.client).bytes())?;
+    push_name(out, names, entry.client)?;
     out.push(b' ')?;
     push_item(out, &entry.item)
 }
 
-/// The name at a place, in constant time.
-pub fn name(names: &[Text], place: u32) -> &Text
-    requires { place < length names.now }
-    ensures { result.now ≡ name_at names.now place }
+/// Appends the name at a place, which is found in constant time, and nothing where there is none.
+pub fn push_name(out: &mut Vec<u8>, names: &[Text], place: u32) -> Result<(), OutOfMemory>
+    ensures { OnOk result (out.new.items ≡ out.old.items ++ name_at names.now place) }
 {
     match names.get(place as usize) {
-        Some(name) => name,
-        None => unreachable!(),
+        Some(name) => Ok(out.extend_from_slice(name.bytes())?),
+        None => Ok(()),
     }
 }
 

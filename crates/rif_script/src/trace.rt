@@ -1,12 +1,12 @@
 //! The text of a run.
-ghost use Rattle.std.specs.Prelude.{◌≡◌, ◌++◌, ◌<◌, ◌≤◌, All, IfSome, IsSome, OnErr, OnOk, codes, decimal};
+ghost use Rattle.std.specs.Prelude.{◌≡◌, ◌++◌, OnErr, OnOk, Some, codes};
 ghost use Rattle.std.specs.List.{flat_map};
 ghost use Rattle.rif_script.specs.Lines.{entry_line};
 ghost use Rattle.rif_terms.specs.Bindings.{value_at};
-ghost use Rattle.rif_script.specs.Trace.{CanBePrinted, IsPrintable, IsPickOf, AreBound, forall_vars, bound_text, var_text, act_word, pick_text, fact_line, effect_text, act_text, turn_text, turns_text, firing_count, end_line, run_text};
+ghost use Rattle.rif_script.specs.Trace.{forall_vars, bound_text, var_text, act_word, pick_text, fact_line, effect_text, act_text, turn_text, turns_text, firing_count, end_line, run_text};
 
 use crate::job::Job;
-use crate::lines::{name, push_entry_lines, push_number};
+use crate::lines::{push_entry_lines, push_name, push_number};
 use rif_terms::{Binding, Doc, Fact, Instance, OutOfMemory, Rule, push_const, push_fact};
 use session_states::{Act, Effect, Entry, Turn};
 use std::alloc::Global;
@@ -23,7 +23,6 @@ pub fn write_run(
     left: &[Entry],
     facts: usize,
 ) -> Result<(), OutOfMemory>
-    requires { CanBePrinted job.now turns.now left.now }
     ensures ok { OnOk result (out.new.items ≡ out.old.items ++ run_text job.now turns.now left.now facts) }
     ensures err { OnErr result (out.new.items ≡ out.old.items) }
 {
@@ -36,7 +35,6 @@ pub fn write_run(
 }
 
 fn push_turns(out: &mut Vec<u8>, job: &Job, turns: &[Turn]) -> Result<(), OutOfMemory>
-    requires { All (IsPrintable job.now) turns.now }
     ensures { OnOk result (out.new.items ≡ out.old.items ++ turns_text job.now 1 turns.now) }
 {
     for (before, turn) in turns.iter().enumerate() {
@@ -46,7 +44,6 @@ fn push_turns(out: &mut Vec<u8>, job: &Job, turns: &[Turn]) -> Result<(), OutOfM
 }
 
 fn push_turn(out: &mut Vec<u8>, job: &Job, number: usize, turn: &Turn) -> Result<(), OutOfMemory>
-    requires { IsPrintable job.now turn.now }
     ensures { OnOk result (out.new.items ≡ out.old.items ++ turn_text job.now number turn.now) }
 {
     out.extend_from_slice(b"turn ")?;
@@ -58,19 +55,21 @@ fn push_turn(out: &mut Vec<u8>, job: &Job, number: usize, turn: &Turn) -> Result
 
 // Appends what a turn's act, pick and effect show.
 fn push_act(out: &mut Vec<u8>, doc: &Doc, turn: &Turn) -> Result<(), OutOfMemory>
-    requires settled { IsSome turn.now.act }
-    requires pick { IfSome turn.now.pick (IsPickOf doc.now) }
     ensures { OnOk result (out.new.items ≡ out.old.items ++ act_text doc.now turn.now) }
 {
-    match turn.act {
-        Some(act) => out.extend_from_slice(word(act))?,
-        None => unreachable!(),
-    }
-    if let Some(pick) = &turn.pick {
-        push_pick(out, doc, pick)?;
-    }
+    push_word(out, turn.act)?;
+    push_pick(out, doc, &turn.pick)?;
     out.push(b'\n')?;
     push_effect(out, &turn.effect)
+}
+
+fn push_word(out: &mut Vec<u8>, act: Option<Act>) -> Result<(), OutOfMemory>
+    ensures { OnOk result (out.new.items ≡ out.old.items ++ act_word act) }
+{
+    match act {
+        Some(act) => Ok(out.extend_from_slice(word(act))?),
+        None => Ok(()),
+    }
 }
 
 // The word of an act.
@@ -88,21 +87,22 @@ fn word(act: Act) -> &'static [u8]
     }
 }
 
-fn push_pick(out: &mut Vec<u8>, doc: &Doc, pick: &Instance) -> Result<(), OutOfMemory>
-    requires { IsPickOf doc.now pick.now }
-    ensures { OnOk result (out.new.items ≡ out.old.items ++ pick_text doc.now (Some pick.now)) }
+fn push_pick(out: &mut Vec<u8>, doc: &Doc, pick: &Option<Instance>) -> Result<(), OutOfMemory>
+    ensures { OnOk result (out.new.items ≡ out.old.items ++ pick_text doc.now pick.now) }
 {
+    let Some(pick) = pick else {
+        return Ok(());
+    };
     out.push(b' ')?;
     push_number(out, u64::from(pick.rule))?;
-    match doc.rules.get(pick.rule as usize - 1) {
+    match doc.rules.get((pick.rule as usize).saturating_sub(1)) {
         Some(rule) => push_row(out, rule, &pick.row),
-        None => unreachable!(),
+        None => Ok(()),
     }
 }
 
 // Appends the names and values of a rule's `Forall` variables.
 fn push_row(out: &mut Vec<u8>, rule: &Rule, row: &Binding) -> Result<(), OutOfMemory>
-    requires { AreBound rule.now row.now (forall_vars rule.now) }
     ensures { OnOk result (out.new.items ≡ out.old.items ++ flat_map (var_text rule.now row.now) (forall_vars rule.now)) }
 {
     for level in rule.levels.as_slice() {
@@ -112,12 +112,11 @@ fn push_row(out: &mut Vec<u8>, rule: &Rule, row: &Binding) -> Result<(), OutOfMe
 }
 
 fn push_vars(out: &mut Vec<u8>, rule: &Rule, row: &Binding, vars: &[u32]) -> Result<(), OutOfMemory>
-    requires { AreBound rule.now row.now vars.now }
     ensures { OnOk result (out.new.items ≡ out.old.items ++ flat_map (var_text rule.now row.now) vars.now) }
 {
     for var in vars {
         out.extend_from_slice(b" ?")?;
-        out.extend_from_slice(name(rule.names.as_slice(), *var).bytes())?;
+        push_name(out, rule.names.as_slice(), *var)?;
         out.push(b'=')?;
         push_value(out, row, *var)?;
     }
@@ -125,12 +124,11 @@ fn push_vars(out: &mut Vec<u8>, rule: &Rule, row: &Binding, vars: &[u32]) -> Res
 }
 
 fn push_value(out: &mut Vec<u8>, row: &Binding, var: u32) -> Result<(), OutOfMemory>
-    requires { IsSome (value_at row.now var) }
     ensures { OnOk result (out.new.items ≡ out.old.items ++ bound_text (value_at row.now var)) }
 {
     match row.get(var) {
         Some(value) => push_const(out, value),
-        None => unreachable!(),
+        None => Ok(()),
     }
 }
 

@@ -1,5 +1,5 @@
 //! Runs by hand, with their texts.
-use super::checks::{can_be_printed, has_its_clients};
+use super::checks::has_its_clients;
 use super::values::WrittenConst::{Bool, Fresh, Int, Iri, Local, Str};
 use super::values::WrittenFact::{Atom, Frame, Member};
 use super::values::WrittenItem::{
@@ -31,7 +31,6 @@ impl Run<'_> {
         assert!(rt; has_its_clients(&job));
         let (batches, left) = batches_of(alloc, &job)?;
         let turns = turns_of(alloc, batches, self.shown)?;
-        assert!(rt; can_be_printed(&job, turns.as_slice(), left.as_slice()));
         let mut out = vec![in alloc; b'#']?;
         write_run(
             alloc,
