@@ -1,6 +1,5 @@
 pub mod CuttingLemmas
 pub mod LawLemmas
-pub mod PiecesLemmas
 pub mod RankLemmas
 pub mod ScriptLemmas
 pub mod TakingLemmas
