@@ -1,4 +1,6 @@
 pub mod BoundLemmas
 pub mod GatheringLemmas
 pub mod MatchingLemmas
+pub mod ReplayLemmas
 pub mod ThroughLemmas
+pub mod TurnLemmas

@@ -2,8 +2,11 @@ pub mod Blocks
 pub mod Builtins
 pub mod Choice
 pub mod ConflictSet
+pub mod Counted
 pub mod Extensions
 pub mod History
+pub mod Replay
 pub mod Runs
+pub mod Session
 pub mod Turns
 pub mod Values

@@ -6,9 +6,9 @@
 -- one too; facts in the middle of a batch or a block belong to no state.
 -- Source: RIF-PRD, "Operational semantics of a production rule system"; batches of clients and acts are the
 -- project's own (docs/PROFILE.md, "Turns").
-use Rattle.std.specs.Prelude.{ℕ, zero, suc, List, [], ◌∷◌, fold, Some, None}
+use Rattle.std.specs.Prelude.{ℕ, zero, suc, ◌-◌, List, [], ◌∷◌, fold, length, slice_get, Some, None}
 use Rattle.std.specs.List.{filter_map}
-use Rattle.std.specs.Option.{option_map_or}
+use Rattle.std.specs.Option.{option_map_or, option_and_then}
 use Rattle.std.specs.declared.option.Option.{Option}
 use Rattle.rif_terms.specs.declared.fact.Fact.{Fact}
 use Rattle.rif_terms.specs.declared.instance.Instance.{Instance}
@@ -28,7 +28,9 @@ use Rattle.session_states.specs.declared.turn.Turn.{Turn}
 use Rattle.session_states.specs.Machine.{state_after}
 use Rattle.prd_relation.specs.History.{Snapshot, first_history, newest_facts, moments_of}
 use Rattle.prd_relation.specs.Choice.{rule_of, chosen_instance}
-use Rattle.prd_relation.specs.Blocks.{Block, void, changing, block_of}
+use Rattle.prd_relation.specs.declared.block.Block.{Block}
+use Rattle.prd_relation.specs.declared.block.Block.TheVariants.{Void as VoidBlock, Changes}
+use Rattle.prd_relation.specs.Blocks.{block_of}
 
 pub record Session : Type 0 where
   pub state : State
@@ -39,11 +41,15 @@ pub record Session : Type 0 where
 abbrev pub first_session : Session
 first_session = record { state = Idle; history = first_history; made = 0 }
 
-abbrev pub change_in : Entry → Option Change
-change_in entry = elim entry.item [ ChangeItem change ↦ Some change | Fire n ↦ None | Until n ↦ None | Halt ↦ None | Dispose ↦ None ]
+abbrev pub change_of : Item → Option Change
+change_of (ChangeItem change) = Some change
+change_of (Fire more) = None
+change_of (Until more) = None
+change_of Halt = None
+change_of Dispose = None
 
 abbrev pub changes_in : List Entry → List Change
-changes_in batch = filter_map change_in batch
+changes_in batch = filter_map (λ entry. change_of entry.item) batch
 
 abbrev pub state_with : State → List Entry → State
 state_with state batch = fold (λ s entry. state_after s entry.item) state batch
@@ -61,10 +67,15 @@ session_with session batch = record {
 }
 
 -- the act of a batch that ends in a Halt or a Dispose
+abbrev pub ending_item : Item → Option Act
+ending_item (ChangeItem change) = None
+ending_item (Fire more) = None
+ending_item (Until more) = None
+ending_item Halt = Some Halted
+ending_item Dispose = Some DisposedAct
+
 abbrev pub ending_act : List Entry → Option Act
-ending_act [] = None
-ending_act (entry ∷ []) = elim entry.item [ ChangeItem change ↦ None | Fire n ↦ None | Until n ↦ None | Halt ↦ Some Halted | Dispose ↦ Some DisposedAct ]
-ending_act (entry ∷ next ∷ entries) = ending_act (next ∷ entries)
+ending_act batch = option_and_then (λ entry. ending_item entry.item) (slice_get batch (length batch - 1))
 
 -- what a turn came to: its act, its pick and effect, and the session after it
 pub record Outcome : Type 0 where
@@ -77,22 +88,40 @@ pub record Outcome : Type 0 where
 abbrev pub unfired : Act → State → Session → Outcome
 unfired act state session = record { act = act; pick = None; effect = NoEffect; session = record session { state = state } }
 
--- the block of an instance at the newest state of facts
+-- the block of an instance, where the facts are these and so many objects were made
+abbrev pub instance_block : Doc → Instance → List Fact → ℕ → Block
+instance_block doc i facts made = option_map_or (λ rule. block_of rule i.row facts made) (rule_of doc i.rule) VoidBlock
+
 abbrev pub block_at : Doc → Session → Instance → Block
-block_at doc session i =
-    option_map_or (λ rule. block_of rule i.row (newest_facts session.history) session.made) (rule_of doc i.rule) void
+block_at doc session i = instance_block doc i (newest_facts session.history) session.made
 
--- the session with one more state, which the pick led to
-abbrev pub session_fired : Session → State → Instance → List Fact → ℕ → Session
-session_fired session state i facts made = record { state = state; history = record { facts = facts; pick = Some i } ∷ session.history; made = made }
+-- the facts after a block
+abbrev pub facts_after_block : List Fact → Block → List Fact
+facts_after_block old VoidBlock = old
+facts_after_block old (Changes changes made) = facts_after old changes
 
+abbrev pub effect_of_block : List Fact → Block → Effect
+effect_of_block old VoidBlock = Void
+effect_of_block old (Changes changes made) = Net (net_change old (facts_after old changes))
+
+-- the number of objects made after a block, where so many were made before
+abbrev pub made_after_block : ℕ → Block → ℕ
+made_after_block made VoidBlock = made
+made_after_block made (Changes changes more) = more
+
+-- the firing of an instance whose block is this one: one more state of facts, which the pick led to
 abbrev pub firing_of : Session → State → Instance → Block → Outcome
-firing_of session state i void =
-    record { act = Fired; pick = Some i; effect = Void; session = session_fired session state i (newest_facts session.history) session.made }
-firing_of session state i (changing changes made) =
-    let old = newest_facts session.history in
-    let new = facts_after old changes in
-    record { act = Fired; pick = Some i; effect = Net (net_change old new); session = session_fired session state i new made }
+firing_of session next i block =
+    let old = newest_facts session.history in record {
+      act = Fired;
+      pick = Some i;
+      effect = effect_of_block old block;
+      session = record {
+        state = next;
+        history = record { facts = facts_after_block old block; pick = Some i } ∷ session.history;
+        made = made_after_block session.made block;
+      };
+    }
 
 -- an instance is chosen: it fires where the budget isn't spent
 abbrev pub with_budget : Doc → Session → (ℕ → State) → ℕ → Instance → Outcome

@@ -1,7 +1,8 @@
 ghost use Rattle.std.specs.Prelude.{◌≡◌, [], length};
-ghost use Rattle.rif_terms.specs.Facts.{IsFacts};
+ghost use Rattle.rif_terms.specs.Facts.{IsFacts, facts_after, net_change};
+ghost use Rattle.std.specs.Prelude.{IfOk};
 
-use rif_terms::{Fact, Listed};
+use rif_terms::{Fact, Listed, OutOfMemory, Change, Delta};
 use std::alloc::Global;
 use std::marker::Model;
 
@@ -49,4 +50,14 @@ impl Facts {
     {
         self.items.as_slice()
     }
+
+    pub fn after(&self, alloc: Global, changes: &[Change]) -> Result<Facts, OutOfMemory>
+        ensures { IfOk result (λ facts. facts ≡ facts_after self.now changes.now) }
+    { Err(OutOfMemory) }
+    pub fn net_change_to(&self, alloc: Global, new: &Facts) -> Result<Delta, OutOfMemory>
+        ensures { IfOk result (λ delta. delta ≡ net_change self.now new.now) }
+    { Err(OutOfMemory) }
+    pub fn copy(&self) -> Result<Facts, OutOfMemory>
+        ensures { IfOk result (λ copy. copy ≡ self.now) }
+    { Err(OutOfMemory) }
 }

@@ -1,9 +1,9 @@
-ghost use Rattle.std.specs.Prelude.{◌≡◌, IfOk};
+ghost use Rattle.std.specs.Prelude.{◌≡◌, [], IfOk};
 ghost use Rattle.session_states.specs.Batches.{IsLawful};
 
 use crate::item::Entry;
 use rif_terms::{Listed, OutOfMemory};
-use std::alloc::AllocError;
+use std::alloc::{AllocError, Global};
 use std::marker::Model;
 
 /// The entries that enter a session between two firings, in the order in which they were taken.
@@ -31,6 +31,15 @@ impl Model for Batch {
 }
 
 impl Batch {
+    /// The empty batch. It takes no memory.
+    pub fn new(alloc: Global) -> Batch
+        ensures { result ≡ [] }
+    {
+        Batch {
+            entries: Listed::new(alloc),
+        }
+    }
+
     /// The batch of these entries, in constant time.
     pub fn from_entries(entries: Listed<Entry>) -> Batch
         requires { IsLawful entries }

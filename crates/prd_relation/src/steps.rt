@@ -1,0 +1,134 @@
+//! The steps of a turn that need no session.
+ghost use Rattle.std.specs.Prelude.{◌≡◌, ◌≤◌, ◌^◌, ◌++◌, IfOk, OnOk};
+ghost use Rattle.prd_relation.specs.Turns.{state_with, changes_in, change_of, ending_act, ending_item, facts_after_block, effect_of_block, made_after_block, instance_block};
+ghost use Rattle.prd_relation.specs.Choice.{rule_of};
+ghost use Rattle.prd_relation.specs.Counted.{IsCounted, NeverFires};
+ghost use Rattle.std.specs.Option.{option_copied, option_to_list};
+
+use crate::block::Block;
+use crate::blocks::block;
+use crate::facts::Facts;
+use rif_terms::{Change, Doc, Instance, OutOfMemory, Rule};
+use session_states::{Act, Effect, Entry, Item, State, after};
+use std::alloc::Global;
+
+/// The state after the items of a batch.
+pub fn state_after(state: State, batch: &[Entry]) -> State
+    ensures { result ≡ state_with state batch.now }
+{
+    let mut now = state;
+    for entry in batch {
+        now = after(now, &entry.item);
+    }
+    now
+}
+
+/// The changes of a batch, in order.
+pub fn changes_of(alloc: Global, batch: &[Entry]) -> Result<Vec<Change>, OutOfMemory>
+    ensures { IfOk result (λ changes. changes.items ≡ changes_in batch.now) }
+{
+    let mut changes = Vec::new(alloc);
+    for entry in batch {
+        push_change(&mut changes, &entry.item)?;
+    }
+    Ok(changes)
+}
+
+fn push_change(changes: &mut Vec<Change>, item: &Item) -> Result<(), OutOfMemory>
+    ensures { OnOk result (changes.new.items ≡ changes.old.items ++ option_to_list (change_of item.now)) }
+{
+    match item {
+        Item::Change(change) => Ok(changes.push(change.copy()?)?),
+        Item::Fire(_) | Item::Until(_) | Item::Halt | Item::Dispose => Ok(()),
+    }
+}
+
+/// The act that the end of a batch fixes, where it does.
+pub fn ending(batch: &[Entry]) -> Option<Act>
+    ensures act { result ≡ ending_act batch.now }
+    ensures unfired { NeverFires result }
+{
+    match batch.last() {
+        Some(entry) => ending_of(&entry.item),
+        None => None,
+    }
+}
+
+fn ending_of(item: &Item) -> Option<Act>
+    ensures act { result ≡ ending_item item.now }
+    ensures unfired { NeverFires result }
+{
+    match item {
+        Item::Halt => Some(Act::Halted),
+        Item::Dispose => Some(Act::Disposed),
+        Item::Change(_) | Item::Fire(_) | Item::Until(_) => None,
+    }
+}
+
+/// The block of an instance.
+pub fn block_of_instance(
+    alloc: Global,
+    doc: &Doc,
+    instance: &Instance,
+    facts: &Facts,
+    made: u64,
+) -> Result<Block, OutOfMemory>
+    requires { made ≤ 2 ^ 63 }
+    ensures block { IfOk result (λ block. block ≡ instance_block doc.now instance.now facts.now made) }
+    ensures counted { IfOk result IsCounted }
+{
+    match rule_at(doc, instance.rule) {
+        Some(rule) => block(alloc, rule, &instance.row, facts, made),
+        None => Ok(Block::Void),
+    }
+}
+
+/// The rule of a number, counted from 1.
+pub fn rule_at(doc: &Doc, number: u32) -> Option<&Rule>
+    ensures { option_copied result ≡ rule_of doc.now number }
+{
+    if number == 0 {
+        return None;
+    }
+    doc.rules.get(number as usize - 1)
+}
+
+/// The facts after a block.
+pub fn facts_after(alloc: Global, old: &Facts, block: &Block) -> Result<Facts, OutOfMemory>
+    ensures { IfOk result (λ facts. facts ≡ facts_after_block old.now block.now) }
+{
+    match block {
+        Block::Void => old.copy(),
+        Block::Changes { list, made: _ } => old.after(alloc, list.as_slice()),
+    }
+}
+
+/// What a block did to the facts.
+pub fn effect_of(
+    alloc: Global,
+    old: &Facts,
+    new: &Facts,
+    block: &Block,
+) -> Result<Effect, OutOfMemory>
+    requires { new.now ≡ facts_after_block old.now block.now }
+    ensures { IfOk result (λ effect. effect ≡ effect_of_block old.now block.now) }
+{
+    match block {
+        Block::Void => Ok(Effect::Void),
+        Block::Changes { .. } => Ok(Effect::Net(old.net_change_to(alloc, new)?)),
+    }
+}
+
+/// How many objects were made after a block.
+pub fn made_after(made: u64, block: &Block) -> u64
+    requires made { made ≤ 2 ^ 63 }
+    requires block { IsCounted block.now }
+    ensures made { result ≡ made_after_block made block.now }
+    ensures few { result ≤ 2 ^ 63 }
+{
+    match block {
+        Block::Void => made,
+        Block::Changes { list: _, made } => *made,
+    }
+}
+
