@@ -1,4 +1,6 @@
 pub mod BoundLemmas
+pub mod ConflictSetLemmas
 pub mod GatheringLemmas
+pub mod ListingLemmas
 pub mod MatchingLemmas
 pub mod ThroughLemmas

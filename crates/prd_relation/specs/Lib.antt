@@ -4,6 +4,7 @@ pub mod Choice
 pub mod ConflictSet
 pub mod Extensions
 pub mod History
+pub mod Laws
 pub mod Runs
 pub mod Turns
 pub mod Values
