@@ -5,6 +5,7 @@ pub mod ConflictSet
 pub mod Extensions
 pub mod History
 pub mod Laws
+pub mod Layout
 pub mod Runs
 pub mod Turns
 pub mod Values
