@@ -5,6 +5,8 @@ pub mod ConflictSet
 pub mod Counted
 pub mod Extensions
 pub mod History
+pub mod Laws
+pub mod Layout
 pub mod Replay
 pub mod Runs
 pub mod Session

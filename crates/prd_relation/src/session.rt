@@ -1,7 +1,8 @@
 ghost use Rattle.std.specs.Prelude.{◌≡◌, ◌≤◌, ◌^◌};
 
 use crate::facts::Facts;
-use crate::plain::{Plain, choose_plain};
+use crate::choosing::choose_plain;
+use crate::plain::Plain;
 use crate::steps::{
     block_of_instance, changes_of, effect_of, ending, facts_after, made_after, state_after,
 };

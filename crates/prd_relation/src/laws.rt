@@ -1,0 +1,31 @@
+//! What the words of histories and of the choice promise. Each law is the clause of a function with an
+//! empty body, and its statement stands in specs/Laws.antt.
+//!
+//! Source: RIF-PRD, "Conflict set" and "Conflict resolution".
+ghost use Rattle.prd_relation.specs.Laws.{AreConflictSetsSets, AreAgesSaid, IsRefractionSaid, AreOthersUnaged, ChoosesUnrefracted};
+
+/// Law: a conflict set has its instances in order, each once.
+#[tactic(auto, using(crate::proofs::ConflictSetLemmas::conflict_set_is_set))]
+pub fn conflict_sets_are_sets()
+    ensures { AreConflictSetsSets }
+{}
+
+/// Law: the age is how many of the newest states in a row have the instance in their conflict sets.
+pub fn ages_count_states_in_a_row()
+    ensures { AreAgesSaid }
+{}
+
+/// Law: an instance is refracted exactly where it was picked and conflict sets have had it ever since.
+pub fn refraction_lasts_while_the_instance_does()
+    ensures { IsRefractionSaid }
+{}
+
+/// Law: an instance that isn't in the newest conflict set has age 0.
+pub fn other_instances_have_no_age()
+    ensures { AreOthersUnaged }
+{}
+
+/// Law: what is chosen is in the newest conflict set and isn't refracted.
+pub fn the_chosen_is_unrefracted()
+    ensures { ChoosesUnrefracted }
+{}
