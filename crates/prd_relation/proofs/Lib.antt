@@ -1,4 +1,5 @@
 pub mod BoundLemmas
+pub mod FactsLemmas
 pub mod GatheringLemmas
 pub mod MatchingLemmas
 pub mod ThroughLemmas
