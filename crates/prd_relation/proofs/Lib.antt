@@ -2,6 +2,7 @@ pub mod BoundLemmas
 pub mod ChoiceLemmas
 pub mod ChosenLemmas
 pub mod ConflictSetLemmas
+pub mod FactsLemmas
 pub mod GatheringLemmas
 pub mod HistoryLemmas
 pub mod ListingLemmas

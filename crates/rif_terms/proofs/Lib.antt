@@ -4,3 +4,4 @@ pub mod SetsChanges
 pub mod SetsMembers
 pub mod SetsSorted
 pub mod SetsSteps
+pub mod SetsSearch

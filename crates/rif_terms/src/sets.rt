@@ -1,9 +1,13 @@
-ghost use Rattle.std.specs.Prelude.{◌≡◌, IfOk};
-ghost use Rattle.rif_terms.specs.Sets.{ordered};
+ghost use Rattle.std.specs.Prelude.{◌≡◌, true, false, length, IfOk, IfErr};
+ghost use Rattle.std.specs.List.{HoldsAt, insert};
+ghost use Rattle.std.specs.List.Sorted.{IsSearchInRange};
+ghost use Rattle.std.specs.BTreeSet.{insert_key};
+ghost use Rattle.rif_terms.specs.Sets.{has, IsSet, ordered};
 
 use crate::fault::OutOfMemory;
 use crate::listed::Listed;
 use std::alloc::Global;
+use std::cmp::Ordering;
 
 /// The items in order, each once: a finite set as a list. Of items that compare alike the first stays.
 ///
@@ -18,6 +22,19 @@ pub fn sorted_set<K: Ord + Drop>(alloc: Global, mut items: Vec<K>) -> Result<Lis
     items.as_mut_slice().sort(alloc)?;
     items.dedup();
     Ok(Listed::from_vec(items))
+}
+
+/// The place of an item in a set, counted from 0, or else the place at which it would be put. It compares
+/// the item with as many as the logarithm of their number.
+pub fn find_in_set<K: Ord>(set: &[K], item: &K) -> Result<usize, usize>
+    requires { IsSet K.cmp set.now }
+    ensures bound { IsSearchInRange result (length set.now) }
+    ensures found { IfOk result (λ at. has K.cmp set.now item.now ≡ true) }
+    ensures stands { IfOk result (HoldsAt (λ x. K.cmp x item.now ≡ Ordering.Equal) set.now) }
+    ensures absent { IfErr result (λ at. has K.cmp set.now item.now ≡ false) }
+    ensures place { IfErr result (λ at. insert_key K.cmp set.now item.now ≡ insert set.now at item.now) }
+{
+    set.binary_search(item)
 }
 
 #[cfg(test)]

@@ -100,7 +100,10 @@ impl Formula {
                 let vars = Items::from_slice(alloc, vars.as_slice())?;
                 Ok(Formula::Exists(vars, Boxed::new(alloc, inner.get().copy(alloc)?)?))
             }
-            Formula::Equal(left, right) => Ok(Formula::Equal(left.copy(alloc)?, right.copy(alloc)?)),
+            Formula::Equal(left, right) => Ok(Formula::Equal(
+                left.copy(alloc)?,
+                right.copy(alloc)?,
+            )),
             Formula::Member(object, class) => {
                 Ok(Formula::Member(object.copy(alloc)?, class.copy(alloc)?))
             }
