@@ -23,12 +23,10 @@ use Rattle.rif_terms.specs.declared.rule.Decl.{Decl}
 use Rattle.rif_terms.specs.declared.rule.Decl.TheVariants.{Slot, New}
 use Rattle.rif_terms.specs.declared.rule.Rule.{Rule}
 use Rattle.rif_terms.specs.Facts.{same_const}
+use Rattle.prd_relation.specs.declared.block.Block.{Block}
+use Rattle.prd_relation.specs.declared.block.Block.TheVariants.{Void, Changes}
+use Rattle.prd_relation.specs.declared.scope.Scope.{Scope}
 use Rattle.prd_relation.specs.Values.{Row, all_of, value_of, values_of, bound}
-
--- the values of the rule's variables and of the block's so far, and how many objects were made
-pub record Scope : Type 0 where
-  pub row : Row
-  pub made : ℕ
 
 -- the value, where the fact is a frame of the object and slot
 abbrev pub slot_value : Const → Const → Fact → Option Const
@@ -82,15 +80,10 @@ action_changes row (Modify object pairs) = slot_changes ModifyChange row object 
 abbrev pub changes_of : Row → List Action → Option (List Change)
 changes_of row actions = option_map (flat_map (λ changes. changes)) (all_of (map (action_changes row) actions))
 
--- what a block is at a state
-pub data Block : Type 0 where
-  void : Block
-  changing : List Change → ℕ → Block
-
 -- a block is void where a term that it needs has no value
 abbrev pub block_in : List Action → Option Scope → Block
-block_in actions None = void
-block_in actions (Some scope) = elim (changes_of scope.row actions) [ None ↦ void | Some changes ↦ changing changes scope.made ]
+block_in actions None = Void
+block_in actions (Some scope) = elim (changes_of scope.row actions) [ None ↦ Void | Some changes ↦ Changes changes scope.made ]
 
 abbrev pub block_of : Rule → Row → List Fact → ℕ → Block
 block_of rule row w made = block_in rule.actions (after_decls w rule.decls (record { row = row; made = made }))

@@ -6,4 +6,5 @@ pub mod Extensions
 pub mod History
 pub mod Runs
 pub mod Turns
+pub mod Uses
 pub mod Values

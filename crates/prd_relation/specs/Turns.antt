@@ -28,7 +28,9 @@ use Rattle.session_states.specs.declared.turn.Turn.{Turn}
 use Rattle.session_states.specs.Machine.{state_after}
 use Rattle.prd_relation.specs.History.{Snapshot, first_history, newest_facts, moments_of}
 use Rattle.prd_relation.specs.Choice.{rule_of, chosen_instance}
-use Rattle.prd_relation.specs.Blocks.{Block, void, changing, block_of}
+use Rattle.prd_relation.specs.declared.block.Block.{Block}
+use Rattle.prd_relation.specs.declared.block.Block.TheVariants.{Void as VoidBlock, Changes}
+use Rattle.prd_relation.specs.Blocks.{block_of}
 
 pub record Session : Type 0 where
   pub state : State
@@ -80,16 +82,16 @@ unfired act state session = record { act = act; pick = None; effect = NoEffect; 
 -- the block of an instance at the newest state of facts
 abbrev pub block_at : Doc → Session → Instance → Block
 block_at doc session i =
-    option_map_or (λ rule. block_of rule i.row (newest_facts session.history) session.made) (rule_of doc i.rule) void
+    option_map_or (λ rule. block_of rule i.row (newest_facts session.history) session.made) (rule_of doc i.rule) VoidBlock
 
 -- the session with one more state, which the pick led to
 abbrev pub session_fired : Session → State → Instance → List Fact → ℕ → Session
 session_fired session state i facts made = record { state = state; history = record { facts = facts; pick = Some i } ∷ session.history; made = made }
 
 abbrev pub firing_of : Session → State → Instance → Block → Outcome
-firing_of session state i void =
+firing_of session state i VoidBlock =
     record { act = Fired; pick = Some i; effect = Void; session = session_fired session state i (newest_facts session.history) session.made }
-firing_of session state i (changing changes made) =
+firing_of session state i (Changes changes made) =
     let old = newest_facts session.history in
     let new = facts_after old changes in
     record { act = Fired; pick = Some i; effect = Net (net_change old new); session = session_fired session state i new made }
