@@ -22,15 +22,11 @@ use Rattle.rif_terms.specs.declared.rule.Action.TheVariants.{Assert, Retract, Re
 use Rattle.rif_terms.specs.declared.rule.Decl.{Decl}
 use Rattle.rif_terms.specs.declared.rule.Decl.TheVariants.{Slot, New}
 use Rattle.rif_terms.specs.declared.rule.Rule.{Rule}
+use Rattle.rif_terms.specs.Facts.{same_const}
 use Rattle.prd_relation.specs.declared.block.Block.{Block}
 use Rattle.prd_relation.specs.declared.block.Block.TheVariants.{Void, Changes}
-use Rattle.rif_terms.specs.Facts.{same_const}
+use Rattle.prd_relation.specs.declared.scope.Scope.{Scope}
 use Rattle.prd_relation.specs.Values.{Row, all_of, value_of, values_of, bound}
-
--- the values of the rule's variables and of the block's so far, and how many objects were made
-pub record Scope : Type 0 where
-  pub row : Row
-  pub made : ℕ
 
 -- the value, where the fact is a frame of the object and slot
 abbrev pub slot_value : Const → Const → Fact → Option Const

@@ -2,7 +2,7 @@ pub mod Blocks
 pub mod Builtins
 pub mod Choice
 pub mod ConflictSet
-pub mod Counted
+pub mod Endings
 pub mod Extensions
 pub mod History
 pub mod Laws
@@ -11,4 +11,5 @@ pub mod Replay
 pub mod Runs
 pub mod Session
 pub mod Turns
+pub mod Uses
 pub mod Values

@@ -1,12 +1,12 @@
 use rif_terms::{Change, Listed};
 
-/// A rule's block at a state of facts.
+/// What a rule's block is at a state of facts.
 ///
 /// Source: RIF-PRD, "Action blocks"; void blocks are our own (docs/PROFILE.md, "Actions").
-#[derive(Debug, Drop)]
+#[derive(Debug, PartialEq, Eq, Drop)]
 pub enum Block {
-    /// A term that the block needs has no value.
+    /// A term that it needs has no value, or no more objects can be made.
     Void,
-    /// The changes that the block makes, in order, and the number of objects made so far.
+    /// Its changes, in order, and how many objects were made, its own among them.
     Changes { list: Listed<Change>, made: u64 },
 }

@@ -1,9 +1,10 @@
 ghost use Rattle.std.specs.Prelude.{◌≡◌, ◌≤◌, ◌++◌, ◌∷◌, [], true, false, length, not, if◌then◌else◌, IfOk, IfErr, OnOk};
 ghost use Rattle.std.specs.List.{insert};
-ghost use Rattle.rif_terms.specs.Facts.{IsFacts, has_fact, same_const, same_fact, is_slot_value, is_about, with_fact, without, after_change, facts_after, net_change};
+ghost use Rattle.rif_terms.specs.Facts.{IsFacts, has_fact, same_fact, is_slot_value, is_about, with_fact, without, after_change, facts_after, net_change};
 ghost use Rattle.rif_terms.specs.Order.{fact_cmp};
 ghost use Rattle.rif_terms.specs.Sets.{beyond};
 
+use crate::matching::are_same;
 use rif_terms::{Change, Const, Delta, Fact, Listed, OutOfMemory, find_in_set};
 use std::alloc::Global;
 use std::marker::Model;
@@ -206,18 +207,12 @@ fn is_same(fact: &Fact, other: &Fact) -> bool
     fact.cmp(other).is_eq()
 }
 
-fn is_same_const(constant: &Const, other: &Const) -> bool
-    ensures { result ≡ same_const constant.now other.now }
-{
-    constant.cmp(other).is_eq()
-}
-
 // Whether a fact is a frame of the object and slot.
 fn is_value_of(object: &Const, slot: &Const, fact: &Fact) -> bool
     ensures { result ≡ is_slot_value object.now slot.now fact.now }
 {
     match fact {
-        Fact::Frame(of, at, _) => is_same_const(object, of) && is_same_const(slot, at),
+        Fact::Frame(of, at, _) => are_same(object, of) && are_same(slot, at),
         _ => false,
     }
 }
@@ -228,8 +223,8 @@ fn is_of_object(object: &Const, fact: &Fact) -> bool
 {
     match fact {
         Fact::Atom(_, _) => false,
-        Fact::Frame(of, _, _) => is_same_const(object, of),
-        Fact::Member(of, _) => is_same_const(object, of),
+        Fact::Frame(of, _, _) => are_same(object, of),
+        Fact::Member(of, _) => are_same(object, of),
     }
 }
 

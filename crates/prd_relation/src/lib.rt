@@ -10,7 +10,7 @@
 //! | `listing.rt` | `matches`, `list_instances`: the conflict set | `specs/ConflictSet.antt` |
 //! | `moment.rt`, `mark.rt`, `plain.rt` | `Plain`, the history as its conflict sets | `specs/History.antt` |
 //! | `candidate.rt`, `choosing.rt` | `choose_plain`: a pick is made here | `specs/Choice.antt` |
-//! | `block.rt`, `blocks.rt` | `Block`, what a rule's block does | `specs/Blocks.antt` |
+//! | `block.rt`, `scope.rt`, `uses.rt`, `blocks.rt` | `Block`, what a rule's block does | `specs/Blocks.antt` |
 //! | `steps.rt`, `session.rt` | a turn, step by step | `specs/Turns.antt` |
 //! | `replay.rt` | `replay_plain`, the run of some batches | `specs/Runs.antt` |
 //! | `laws.rt` | laws of the definitions | `specs/Laws.antt` |
@@ -34,8 +34,10 @@ mod moment;
 mod pattern;
 mod plain;
 mod replay;
+mod scope;
 mod session;
 mod steps;
+mod uses;
 mod values;
 
 pub use candidate::Candidate;

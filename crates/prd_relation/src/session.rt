@@ -36,7 +36,7 @@ impl PlainSession {
     ghost use Rattle.prd_relation.specs.Choice.{chosen_instance};
     ghost use Rattle.prd_relation.specs.History.{moments_of};
     ghost use Rattle.prd_relation.specs.Session.{Shows, Settles, Lowers, budget_of};
-    ghost use Rattle.prd_relation.specs.Counted.{NeverFires};
+    ghost use Rattle.prd_relation.specs.Endings.{NeverFires};
 
     /// An idle session with no facts.
     pub fn start(alloc: Global, doc: &Doc) -> Result<PlainSession, OutOfMemory>

@@ -2,7 +2,8 @@
 ghost use Rattle.std.specs.Prelude.{◌≡◌, ◌≤◌, ◌^◌, ◌++◌, IfOk, OnOk};
 ghost use Rattle.prd_relation.specs.Turns.{state_with, changes_in, change_of, ending_act, ending_item, facts_after_block, effect_of_block, made_after_block, instance_block};
 ghost use Rattle.prd_relation.specs.Choice.{rule_of};
-ghost use Rattle.prd_relation.specs.Counted.{IsCounted, NeverFires};
+ghost use Rattle.prd_relation.specs.Endings.{NeverFires};
+ghost use Rattle.prd_relation.specs.Uses.{HasMadeAtMost};
 ghost use Rattle.std.specs.Option.{option_copied, option_to_list};
 
 use crate::block::Block;
@@ -75,7 +76,7 @@ pub fn block_of_instance(
 ) -> Result<Block, OutOfMemory>
     requires { made ≤ 2 ^ 63 }
     ensures block { IfOk result (λ block. block ≡ instance_block doc.now instance.now facts.now made) }
-    ensures counted { IfOk result IsCounted }
+    ensures counted { IfOk result (HasMadeAtMost (2 ^ 63)) }
 {
     match rule_at(doc, instance.rule) {
         Some(rule) => block(alloc, rule, &instance.row, facts, made),
@@ -122,7 +123,7 @@ pub fn effect_of(
 /// How many objects were made after a block.
 pub fn made_after(made: u64, block: &Block) -> u64
     requires made { made ≤ 2 ^ 63 }
-    requires block { IsCounted block.now }
+    requires block { HasMadeAtMost (2 ^ 63) block.now }
     ensures made { result ≡ made_after_block made block.now }
     ensures few { result ≤ 2 ^ 63 }
 {

@@ -12,24 +12,13 @@ use rif_terms::{Binding, Const, Listed, OutOfMemory, Term};
 use std::alloc::Global;
 
 /// The value of a term under a row, where it has one. It visits the whole term.
-#[cycle(values)]
 pub fn value(alloc: Global, row: &Binding, term: &Term) -> Result<Option<Const>, OutOfMemory>
     ensures { IfOk result (λ found. found ≡ value_of row.now term.now) }
 {
-    match term {
-        Term::Const(constant) => Ok(Some(constant.copy()?)),
-        Term::Var(var) => bound_value(row, *var),
-        Term::Call(func, arguments) => {
-            match values(alloc, row, arguments.as_slice())? {
-                Some(values) => Ok(apply_func(*func, values.as_slice())),
-                None => Ok(None),
-            }
-        }
-    }
+    value_in(alloc, row.pairs(), term)
 }
 
 /// The values of some terms under a row, where each has one.
-#[cycle(values)]
 pub fn values(
     alloc: Global,
     row: &Binding,
@@ -37,9 +26,42 @@ pub fn values(
 ) -> Result<Option<Listed<Const>>, OutOfMemory>
     ensures { IfOk result (λ found. found ≡ values_of row.now terms.now) }
 {
+    values_in(alloc, row.pairs(), terms)
+}
+
+/// The value of a term under a row that is given as its pairs, where it has one.
+#[cycle(values)]
+pub fn value_in(
+    alloc: Global,
+    row: &[(u32, Const)],
+    term: &Term,
+) -> Result<Option<Const>, OutOfMemory>
+    ensures { IfOk result (λ found. found ≡ value_of row.now term.now) }
+{
+    match term {
+        Term::Const(constant) => Ok(Some(constant.copy()?)),
+        Term::Var(var) => bound_value(row, *var),
+        Term::Call(func, arguments) => {
+            match values_in(alloc, row, arguments.as_slice())? {
+                Some(values) => Ok(apply_func(*func, values.as_slice())),
+                None => Ok(None),
+            }
+        }
+    }
+}
+
+/// The values of some terms under a row that is given as its pairs, where each has one.
+#[cycle(values)]
+pub fn values_in(
+    alloc: Global,
+    row: &[(u32, Const)],
+    terms: &[Term],
+) -> Result<Option<Listed<Const>>, OutOfMemory>
+    ensures { IfOk result (λ found. found ≡ values_of row.now terms.now) }
+{
     let mut items = Vec::new(alloc);
     for term in terms {
-        match value(alloc, row, term)? {
+        match value_in(alloc, row, term)? {
             Some(constant) => items.push(constant)?,
             None => return Ok(None),
         }
@@ -47,13 +69,15 @@ pub fn values(
     Ok(Some(Listed::from_vec(items)))
 }
 
-fn bound_value(row: &Binding, var: u32) -> Result<Option<Const>, OutOfMemory>
+fn bound_value(row: &[(u32, Const)], var: u32) -> Result<Option<Const>, OutOfMemory>
     ensures { IfOk result (λ found. found ≡ value_at row.now var) }
 {
-    match row.get(var) {
-        Some(constant) => Ok(Some(constant.copy()?)),
-        None => Ok(None),
+    for pair in row {
+        if pair.0 == var {
+            return Ok(Some(pair.1.copy()?));
+        }
     }
+    Ok(None)
 }
 
 /// The row with one more variable, at the cost of a copy of the row.
@@ -66,11 +90,12 @@ pub fn with_variable(
     requires { value_at row.now var ≡ None }
     ensures { IfOk result (λ longer. longer ≡ bound row.now var constant.now) }
 {
-    let pairs = longer(alloc, row.pairs(), var, constant)?;
+    let pairs = pairs_with(alloc, row.pairs(), var, constant)?;
     Ok(Binding::from_pairs(pairs))
 }
 
-fn longer(
+/// The pairs of a row with one more variable, at its place.
+pub fn pairs_with(
     alloc: Global,
     pairs: &[(u32, Const)],
     var: u32,
