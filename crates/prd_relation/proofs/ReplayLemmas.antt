@@ -24,8 +24,8 @@ next : (doc : Doc) (given before after : List (List Entry)) (fired now : Bool) (
     → (replayed : IsReplayed doc given before fired old plain)
     → IsNextTurn doc (session_at_end doc first_session replayed.done) batch now old new plainer
     → ((more : List (List Entry)) → IsReplayFrom doc (session_after doc (session_at_end doc first_session replayed.done) batch)
-          (fires doc (session_at_end doc first_session replayed.done) batch) after more
-        → IsReplayFrom doc (session_at_end doc first_session replayed.done) fired before (batch ∷ more))
+    (fires doc (session_at_end doc first_session replayed.done) batch) after more
+    → IsReplayFrom doc (session_at_end doc first_session replayed.done) fired before (batch ∷ more))
     → IsReplayed doc given after now new plainer
 next doc given before after fired now batch old new plain plainer replayed turn comes = record {
   done = replayed.done ++ batch ∷ [];
@@ -34,8 +34,8 @@ next doc given before after fired now batch old new plain plainer replayed turn 
   shows = subst (λ (s : Session). Shows doc plainer s) (sym (end_more doc first_session replayed.done batch)) turn.shows;
   goes_on = λ more rest. subst (λ (bs : List (List Entry)). IsReplay doc given bs) (sym (append_assoc replayed.done (batch ∷ []) more))
       (replayed.goes_on (batch ∷ more) (comes more
-        (subst (λ (f : Bool). IsReplayFrom doc (session_after doc (session_at_end doc first_session replayed.done) batch) f after more) turn.fired_is
-          (subst (λ (s : Session). IsReplayFrom doc s now after more) (end_more doc first_session replayed.done batch) rest))));
+      (subst (λ (f : Bool). IsReplayFrom doc (session_after doc (session_at_end doc first_session replayed.done) batch) f after more) turn.fired_is
+      (subst (λ (s : Session). IsReplayFrom doc s now after more) (end_more doc first_session replayed.done batch) rest))));
 }
 
 pub next_given : (doc : Doc) (given left : List (List Entry)) (now : Bool) (batch : List Entry) (old new : List Turn) (plain plainer : PlainSession)
@@ -65,5 +65,5 @@ pub ends : (doc : Doc) (given left : List (List Entry)) (turns : List Turn) (pla
     → (all : List (List Entry)) × IsReplay doc given all × (turns ≡ run_of doc all) × (length plain.facts ≡ facts_at_end doc all)
 ends doc given left turns plain none replayed =
     let done : IsReplayed doc given [] false turns plain =
-        subst (λ (rest : List (List Entry)). IsReplayed doc given rest false turns plain) none replayed in
+    subst (λ (rest : List (List Entry)). IsReplayed doc given rest false turns plain) none replayed in
     (done.done, all_replayed doc given turns plain done, done.turns_are, ap length done.shows.facts)

@@ -25,11 +25,7 @@ pub struct PlainRun {
 ///
 /// Source: RIF-PRD, "Operational semantics of a production rule system"; batches are our own
 /// (docs/PROFILE.md, "Turns").
-pub fn replay_plain(
-    alloc: Global,
-    doc: &Doc,
-    batches: Vec<Batch>,
-) -> Result<PlainRun, OutOfMemory>
+pub fn replay_plain(alloc: Global, doc: &Doc, batches: Vec<Batch>) -> Result<PlainRun, OutOfMemory>
     ensures { IfOk result (λ run. (all : List (List Entry)) × IsReplay doc.now batches.items all × (run.turns ≡ run_of doc.now all) × (run.facts ≡ facts_at_end doc.now all)) }
 {
     let mut left = VecDeque::from_vec(batches);

@@ -1,7 +1,7 @@
 ghost use Rattle.std.specs.Prelude.{◌≡◌, ◌≤◌, ◌^◌};
 
-use crate::facts::Facts;
 use crate::choosing::choose_plain;
+use crate::facts::Facts;
 use crate::plain::Plain;
 use crate::steps::{
     block_of_instance, changes_of, effect_of, ending, facts_after, made_after, state_after,
@@ -148,7 +148,8 @@ impl PlainSession {
         let block = block_of_instance(alloc, doc, &instance, &self.facts, self.made)?;
         let facts = facts_after(alloc, &self.facts, &block)?;
         let effect = effect_of(alloc, &self.facts, &facts, &block)?;
-        self.history.push(alloc, doc, &facts, Some(instance.copy()?))?;
+        self.history
+            .push(alloc, doc, &facts, Some(instance.copy()?))?;
         self.state = next;
         self.facts = facts;
         self.made = made_after(self.made, &block);

@@ -132,4 +132,3 @@ pub fn made_after(made: u64, block: &Block) -> u64
         Block::Changes { list: _, made } => *made,
     }
 }
-
