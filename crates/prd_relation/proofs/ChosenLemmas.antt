@@ -1,7 +1,12 @@
 -- What is chosen, and when nothing is.
 use Rattle.std.proofs.Common.{◌≡◌, ◌∙◌, ℕ, zero, suc, Bool, true, false, cond, not, ◌&&◌, ◌||◌, List, [], ◌∷◌, filter, slice_get, Some, None, refl, ap, sym, subst, arith}
-use Rattle.std.specs.List.{list_any}
-use Rattle.std.specs.Ordering.{eq_by_cmp}
+use Rattle.std.proofs.Common.{ℤ, nat_lt, true≢false}
+use Rattle.std.proofs.lemmas.Grind.{common_steps}
+use Rattle.std.specs.Cmp.{int_cmp_total, int_cmp_is}
+use Rattle.std.specs.List.{AllByRecursion, list_any}
+use Rattle.std.specs.declared.cmp.Ordering.{Ordering}
+use Rattle.std.specs.declared.cmp.Ordering.TheVariants.{Less, Equal, Greater}
+use Rattle.std.specs.Ordering.{eq_by_cmp, int_cmp, is_lt}
 use Rattle.rif_terms.proofs.OrderLemmas.{total_instances, exact_instances}
 use Rattle.rif_terms.proofs.SetsMembers.{has_filter, equal_itself}
 use Rattle.rif_terms.specs.declared.instance.Instance.{Instance}
@@ -9,9 +14,9 @@ use Rattle.rif_terms.specs.declared.rule.Doc.{Doc}
 use Rattle.rif_terms.specs.InstanceOrder.{instance_cmp}
 use Rattle.rif_terms.specs.Sets.{has}
 use Rattle.prd_relation.specs.declared.moment.Moment.{Moment}
-use Rattle.prd_relation.specs.Choice.{is_lower, is_older, highest_instances, unrefracted_instances, allowed_instances}
-use Rattle.prd_relation.specs.History.{newest_conflict_set, is_refracted}
-use Rattle.prd_relation.specs.Laws.{ChoosesUnrefracted}
+use Rattle.prd_relation.specs.Choice.{best_by, priority_of, is_lower, is_older, highest_instances, youngest_instances, unrefracted_instances, allowed_instances}
+use Rattle.prd_relation.specs.History.{newest_conflict_set, age_of, is_refracted}
+use Rattle.prd_relation.specs.Laws.{ChoosesUnrefracted, ChoosesWhereItCan}
 
 has_first : (xs : List Instance) (i : Instance) → slice_get xs 0 ≡ Some i → has instance_cmp xs i ≡ true
 has_first [] i at = absurd (cc at)
@@ -43,3 +48,82 @@ chosen_unrefracted doc ms i chosen =
     let high = kept (λ x. not (list_any (is_lower doc x) eager)) eager i young.1 in
     let free = kept (λ x. not (is_refracted ms x)) (newest_conflict_set ms) i high.1 in
     (free.1, negated (is_refracted ms i) free.0)
+
+-- ---- where something is left to choose from, something is chosen
+
+all_beaten : {X : Type 0} (w : X → X → Bool) → ((a b c : X) → w a b ≡ true → w b c ≡ true → w a c ≡ true) → (m x : X) → w m x ≡ true
+    → (ys : List X) → AllByRecursion (λ y. w m y ≡ false) ys → AllByRecursion (λ y. w x y ≡ false) ys
+all_beaten w trans m x worse [] all = tt
+all_beaten w trans m x worse (y ∷ ys) all = (unbeaten (w x y) refl, all_beaten w trans m x worse ys all.1)
+  where
+    unbeaten : (b : Bool) → w x y ≡ b → w x y ≡ false
+    unbeaten true is = absurd (true≢false (sym (trans m x y worse is) ∙ all.0))
+    unbeaten false is = is
+
+best_exists : {X : Type 0} (w : X → X → Bool) → ((a b c : X) → w a b ≡ true → w b c ≡ true → w a c ≡ true) → ((a : X) → w a a ≡ false)
+    → (P : X → Type 0) (x : X) (xs : List X) → AllByRecursion P (x ∷ xs) → (m : X) × P m × AllByRecursion (λ y. w m y ≡ false) (x ∷ xs)
+best_exists w trans irr P x [] all = (x, all.0, (irr x, tt))
+best_exists w trans irr P x (y ∷ xs) all =
+    let later = best_exists w trans irr P y xs all.1 in by_first later.0 later.1 later.2 (w later.0 x) refl
+  where
+    by_first : (m : _) → P m → AllByRecursion (λ z. w m z ≡ false) (y ∷ xs) → (b : Bool) → w m x ≡ b
+        → (n : _) × P n × AllByRecursion (λ z. w n z ≡ false) (x ∷ y ∷ xs)
+    by_first m p best true is = (x, all.0, (irr x, all_beaten w trans m x is (y ∷ xs) best))
+    by_first m p best false is = (m, p, (is, best))
+
+none_worse : {X : Type 0} (p : X → Bool) (xs : List X) → AllByRecursion (λ y. p y ≡ false) xs → list_any p xs ≡ false
+none_worse p [] all = refl
+none_worse p (x ∷ xs) all = let later = none_worse p xs all.1 in let here = all.0 in grind (arith, later, here)
+
+none_kept : {X : Type 0} (p : X → Bool) (xs : List X) → filter p xs ≡ [] → AllByRecursion (λ x. p x ≡ false) xs
+none_kept p [] empty = tt
+none_kept p (x ∷ xs) empty = by_test (p x) refl empty (λ rest. none_kept p xs rest)
+  where
+    by_test : (b : Bool) → p x ≡ b → cond b (x ∷ filter p xs) (filter p xs) ≡ []
+        → (filter p xs ≡ [] → AllByRecursion (λ x. p x ≡ false) xs) → AllByRecursion (λ x. p x ≡ false) (x ∷ xs)
+    by_test true is empty later = absurd (cc empty)
+    by_test false is empty later = (is, later empty)
+
+-- of some there are best ones
+best_of_some : {X : Type 0} (w : X → X → Bool) → ((a b c : X) → w a b ≡ true → w b c ≡ true → w a c ≡ true) → ((a : X) → w a a ≡ false)
+    → (xs : List X) → best_by w xs ≡ [] → xs ≡ []
+best_of_some w trans irr [] empty = refl
+best_of_some {X} w trans irr (x ∷ xs) empty =
+    let p = λ (z : X). not (list_any (w z) (x ∷ xs)) in
+    let best = best_exists w trans irr (λ (z : X). p z ≡ false) x xs (none_kept p (x ∷ xs) empty) in
+    absurd (true≢false (sym (ap not (none_worse (w best.0) (x ∷ xs) best.2)) ∙ best.1))
+
+first_none : {X : Type 0} (xs : List X) → slice_get xs 0 ≡ None → xs ≡ []
+first_none [] none = refl
+first_none (x ∷ xs) none = absurd (cc none)
+
+is_less : (o : Ordering) → is_lt o ≡ true → o ≡ Less
+is_less Less is = refl
+is_less Equal is = absurd (cc is)
+is_less Greater is = absurd (cc is)
+
+lower_trans : (a b c : ℤ) → is_lt (int_cmp a b) ≡ true → is_lt (int_cmp b c) ≡ true → is_lt (int_cmp a c) ≡ true
+lower_trans a b c first second =
+    ap is_lt (int_cmp_total.trans a b c (is_less (int_cmp a b) first) (is_less (int_cmp b c) second))
+
+lower_irr : (a : ℤ) → is_lt (int_cmp a a) ≡ false
+lower_irr a = ap is_lt (sym (int_cmp_is a a Equal refl))
+
+older_trans : (a b c : ℕ) → nat_lt b a ≡ true → nat_lt c b ≡ true → nat_lt c a ≡ true
+older_trans a b c first second = grind (arith, common_steps, first, second)
+
+older_irr : (a : ℕ) → nat_lt a a ≡ false
+older_irr a = grind (arith, common_steps)
+
+-- nothing is chosen exactly where each instance of the newest conflict set is refracted
+pub nothing_chosen : ChoosesWhereItCan
+nothing_chosen doc ms =
+    let eager = unrefracted_instances ms (newest_conflict_set ms) in (
+      λ none.
+          let lower = λ (i j k : Instance). lower_trans (priority_of doc i.rule) (priority_of doc j.rule) (priority_of doc k.rule) in
+          let older = λ (i j k : Instance). older_trans (age_of ms i) (age_of ms j) (age_of ms k) in
+          best_of_some (is_lower doc) lower (λ i. lower_irr (priority_of doc i.rule)) eager
+          (best_of_some (is_older ms) older (λ i. older_irr (age_of ms i)) (highest_instances doc eager)
+          (first_none (allowed_instances doc ms) none)),
+      λ empty. ap (λ (is : List Instance). slice_get (youngest_instances ms (highest_instances doc is)) 0) empty,
+    )

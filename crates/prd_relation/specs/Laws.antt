@@ -1,13 +1,13 @@
 -- What the words of histories and of the choice promise: the statements of the laws in src/laws.rt.
 -- Source: RIF-PRD, "Conflict set" and "Conflict resolution".
-use Rattle.std.specs.Prelude.{◌≡◌, ◌↔◌, ℕ, true, false, List, Some}
+use Rattle.std.specs.Prelude.{◌≡◌, ◌↔◌, ℕ, true, false, List, [], Some, None}
 use Rattle.rif_terms.specs.declared.fact.Fact.{Fact}
 use Rattle.rif_terms.specs.declared.instance.Instance.{Instance}
 use Rattle.rif_terms.specs.declared.rule.Doc.{Doc}
 use Rattle.rif_terms.specs.InstanceOrder.{instance_cmp}
 use Rattle.rif_terms.specs.Sets.{has, IsSet}
 use Rattle.prd_relation.specs.declared.moment.Moment.{Moment}
-use Rattle.prd_relation.specs.Choice.{chosen_instance}
+use Rattle.prd_relation.specs.Choice.{unrefracted_instances, chosen_instance}
 use Rattle.prd_relation.specs.ConflictSet.{conflict_set}
 use Rattle.prd_relation.specs.History.{newest_conflict_set, age_of, is_refracted, IsAge, IsRefracted}
 
@@ -32,3 +32,8 @@ AreOthersUnaged = (moments : List Moment) (i : Instance) → has instance_cmp (n
 abbrev pub ChoosesUnrefracted : Type 0
 ChoosesUnrefracted = (doc : Doc) (moments : List Moment) (i : Instance) → chosen_instance doc moments ≡ Some i
     → (has instance_cmp (newest_conflict_set moments) i ≡ true) × (is_refracted moments i ≡ false)
+
+-- nothing is chosen exactly where each instance of the newest conflict set is refracted
+abbrev pub ChoosesWhereItCan : Type 0
+ChoosesWhereItCan = (doc : Doc) (moments : List Moment)
+    → (chosen_instance doc moments ≡ None) ↔ (unrefracted_instances moments (newest_conflict_set moments) ≡ [])

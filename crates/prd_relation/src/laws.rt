@@ -2,7 +2,7 @@
 //! empty body, and its statement stands in specs/Laws.antt.
 //!
 //! Source: RIF-PRD, "Conflict set" and "Conflict resolution".
-ghost use Rattle.prd_relation.specs.Laws.{AreConflictSetsSets, AreAgesSaid, IsRefractionSaid, AreOthersUnaged, ChoosesUnrefracted};
+ghost use Rattle.prd_relation.specs.Laws.{AreConflictSetsSets, AreAgesSaid, IsRefractionSaid, AreOthersUnaged, ChoosesUnrefracted, ChoosesWhereItCan};
 
 /// Law: a conflict set has its instances in order, each once.
 #[tactic(auto, using(crate::proofs::ConflictSetLemmas::conflict_set_is_set))]
@@ -28,4 +28,9 @@ pub fn other_instances_have_no_age()
 /// Law: what is chosen is in the newest conflict set and isn't refracted.
 pub fn the_chosen_is_unrefracted()
     ensures { ChoosesUnrefracted }
+{}
+
+/// Law: nothing is chosen exactly where each instance of the newest conflict set is refracted.
+pub fn something_is_chosen_where_it_can_be()
+    ensures { ChoosesWhereItCan }
 {}
