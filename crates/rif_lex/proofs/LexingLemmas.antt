@@ -11,7 +11,8 @@ use Rattle.rif_lex.specs.declared.token.Kind.{Kind}
 use Rattle.rif_lex.specs.declared.token.Token.{Token}
 use Rattle.rif_lex.specs.declared.place.Place.{Place}
 use Rattle.rif_lex.specs.Pieces.{piece_at}
-use Rattle.rif_lex.specs.Lexing.{place_after, place_past, token_at, with_front, tokens_from, tokens_of, lexed}
+use Rattle.rif_lex.specs.Places.{place_after, place_past}
+use Rattle.rif_lex.specs.Lexing.{token_at, with_front, tokens_from, tokens_of, lexed}
 
 -- what is inside a piece is passed over
 pub skipped : (n : ℕ) (p : Place) (text : List ℕ) →

@@ -1,2 +1,4 @@
 pub mod ScanLemmas
+pub mod PlaceLemmas
+pub mod LineLemmas
 pub mod LexingLemmas

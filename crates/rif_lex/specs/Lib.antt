@@ -1,3 +1,5 @@
 pub mod Characters
 pub mod Pieces
+pub mod Places
 pub mod Lexing
+pub mod Scanning

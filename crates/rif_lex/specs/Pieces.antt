@@ -1,6 +1,6 @@
 -- The piece of text that begins at a place: a token, white space, an annotation, or nothing that can be read.
 -- Source: the project's own (docs/FORMATS.md, "Tokens").
-use Rattle.std.specs.Prelude.{ℕ, ◌+◌, ◌==◌, ◌||◌, if◌then◌else◌, List, [], ◌∷◌, suc, Some, None, drop, ◌≤◌}
+use Rattle.std.specs.Prelude.{ℕ, ◌+◌, ◌==◌, ◌||◌, if◌then◌else◌, List, [], ◌∷◌, suc, Some, None, drop}
 use Rattle.std.specs.declared.option.Option.{Option}
 use Rattle.rif_lex.specs.declared.class.Class.{Class}
 use Rattle.rif_lex.specs.declared.class.Class.TheVariants.{White, Letter, Zero, Digit, Underscore, Minus, Question, Quote, Less, Open, Close, OpenSquare, CloseSquare, Equal, Hash, Caret, Other}
@@ -98,9 +98,3 @@ piece_of Other text = Unreadable
 abbrev pub piece_at : List ℕ → Piece
 piece_at [] = Unreadable
 piece_at (b ∷ bs) = piece_of (class_at b) (b ∷ bs)
-
--- a piece has at least one byte, and lies within so many
-abbrev pub FitsIn : Piece → ℕ → Type 0
-FitsIn Unreadable n = Unit {0}
-FitsIn (Blank end) n = (1 ≤ end) × (end ≤ n)
-FitsIn (Lexeme kind end) n = (1 ≤ end) × (end ≤ n)

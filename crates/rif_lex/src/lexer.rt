@@ -1,8 +1,9 @@
 ghost use Rattle.std.specs.Prelude.{◌≡◌};
-ghost use Rattle.rif_lex.specs.Lexing.{lexed, tokens_of, Answers, PutsTokens};
+ghost use Rattle.rif_lex.specs.Lexing.{lexed, tokens_of, Answers};
+ghost use Rattle.rif_lex.specs.Scanning.{PutsTokens};
 
 use crate::piece::Piece;
-use crate::place::{Place, past};
+use crate::place::{Place, past, past_token};
 use crate::token::{Token, Tokens};
 use rif_terms::limits::MOST_INPUT_BYTES;
 use rif_terms::{Fault, Refusal};
@@ -34,6 +35,7 @@ pub fn tokens(alloc: Global, bytes: &[u8]) -> Result<Tokens, Fault>
 fn push_tokens(found: &mut Vec<Token>, text: &[u8]) -> Result<(), Fault>
     ensures { PutsTokens result found.old.items found.new.items (tokens_of text.now) }
 {
+    let is_ascii = text.is_ascii();
     let mut place = Place {
         offset: 0,
         line: 1,
@@ -55,7 +57,7 @@ fn push_tokens(found: &mut Vec<Token>, text: &[u8]) -> Result<(), Fault>
                     line: place.line,
                     col: place.col,
                 })?;
-                place = past(place, &rest[..length]);
+                place = past_token(place, &rest[..length], is_ascii);
             }
         }
     }

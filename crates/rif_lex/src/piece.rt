@@ -1,6 +1,7 @@
 ghost use Rattle.std.specs.Prelude.{◌≡◌, ◌<◌, ◌≤◌, length, drop, if◌then◌else◌};
 ghost use Rattle.rif_lex.specs.Characters.{begins};
-ghost use Rattle.rif_lex.specs.Pieces.{FitsIn, piece_at, piece_of, integer_to, token_to, named, name_length};
+ghost use Rattle.rif_lex.specs.Pieces.{piece_at, piece_of, integer_to, token_to, named, name_length};
+ghost use Rattle.rif_lex.specs.Scanning.{FitsIn};
 ghost use Rattle.rif_lex.specs.declared.class.Class.TheVariants.{Letter, Minus, Open};
 ghost use Rattle.rif_lex.specs.declared.piece.Piece.TheVariants.{Lexeme};
 

@@ -1,5 +1,7 @@
-ghost use Rattle.std.specs.Prelude.{◌≡◌, ◌+◌, ◌<◌, ◌^◌, length, ◌≤◌};
-ghost use Rattle.rif_lex.specs.Lexing.{place_after, place_past};
+ghost use Rattle.std.specs.Prelude.{◌≡◌, ◌+◌, ◌<◌, ◌^◌, length, IsTrue};
+ghost use Rattle.std.specs.Str.{IsAscii};
+ghost use Rattle.rif_lex.specs.Places.{place_after, place_past, line_feeds};
+ghost use Rattle.rif_lex.specs.Scanning.{IsCounted};
 
 /// A place of a text: its offset in bytes from 0, and its line and column, counted from 1, columns
 /// in characters.
@@ -13,9 +15,8 @@ pub struct Place {
 /// The place behind one byte more.
 #[inline(always)]
 fn after(place: Place, byte: u8) -> Place
-    requires offset { place.offset + 1 < 2 ^ 63 }
-    requires line { place.line + 1 < 2 ^ 64 }
-    requires col { place.col + 1 < 2 ^ 64 }
+    requires room { place.offset + 1 < 2 ^ 63 }
+    requires counted { IsCounted place }
     ensures { result ≡ place_after place byte }
 {
     Place {
@@ -38,17 +39,38 @@ fn after(place: Place, byte: u8) -> Place
 /// The place behind some bytes more.
 #[inline(always)]
 pub fn past(from: Place, bytes: &[u8]) -> Place
-    requires offset { from.offset + length bytes.now < 2 ^ 63 }
-    requires line { from.line ≤ from.offset + 1 }
-    requires col { from.col ≤ from.offset + 1 }
-    ensures past { result ≡ place_past from bytes.now }
+    requires room { from.offset + length bytes.now < 2 ^ 63 }
+    requires counted { IsCounted from }
+    ensures is { result ≡ place_past from bytes.now }
     ensures offset { result.offset ≡ from.offset + length bytes.now }
-    ensures line { result.line ≤ result.offset + 1 }
-    ensures col { result.col ≤ result.offset + 1 }
+    ensures counted { IsCounted result }
 {
     let mut place = from;
     for byte in bytes {
         place = after(place, *byte);
     }
     place
+}
+
+/// The place behind a token, which stands in one line. In ASCII each byte is a character.
+#[inline(always)]
+#[tactic(auto, using(crate::proofs::PlaceLemmas::past_ascii))]
+pub fn past_token(from: Place, token: &[u8], is_ascii: bool) -> Place
+    requires room { from.offset + length token.now < 2 ^ 63 }
+    requires counted { IsCounted from }
+    requires one_line { line_feeds token.now ≡ 0 }
+    requires ascii { IsTrue is_ascii → IsAscii token.now }
+    ensures is { result ≡ place_past from token.now }
+    ensures offset { result.offset ≡ from.offset + length token.now }
+    ensures counted { IsCounted result }
+{
+    if !is_ascii {
+        return past(from, token);
+    }
+    let length = token.len();
+    Place {
+        offset: from.offset + length,
+        line: from.line,
+        col: from.col + length as u64,
+    }
 }

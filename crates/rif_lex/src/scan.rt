@@ -2,8 +2,6 @@ ghost use Rattle.std.specs.Prelude.{◌≡◌, ◌≤◌, ◌<◌, ◌+◌, leng
 ghost use Rattle.rif_lex.specs.Characters.{begins, begins_two, begins_escape, is_name, class_at};
 ghost use Rattle.rif_lex.specs.Pieces.{name_length, digits_length, string_length, iri_length, annotation_length, longer};
 
-use crate::class::{Class, class_of};
-
 /// Whether the text has the byte at the place.
 #[inline(always)]
 pub fn has_at(text: &[u8], at: usize, byte: u8) -> bool
@@ -19,9 +17,13 @@ pub fn is_name_at(text: &[u8], at: usize) -> bool
     requires { at < length text.now }
     ensures { result ≡ is_name (class_at (slice_index text.now at)) (drop (at + 1) text.now) }
 {
-    match class_of(text[at]) {
-        Class::Letter | Class::Zero | Class::Digit | Class::Underscore => true,
-        Class::Minus => !has_at(text, at + 1, b'>'),
+    let byte = text[at];
+    if byte >= b'a' {
+        return byte <= b'z' || byte >= 128;
+    }
+    match byte {
+        b'A'..=b'Z' | b'0'..=b'9' | b'_' => true,
+        b'-' => !has_at(text, at + 1, b'>'),
         _ => false,
     }
 }
