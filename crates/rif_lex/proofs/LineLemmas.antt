@@ -2,6 +2,7 @@
 use Rattle.std.proofs.Common.{◌≡◌, ℕ, ◌+◌, ◌<◌, ◌≤◌, List, [], ◌∷◌, ◌++◌, length, take, drop, suc, zero, refl, ap, ◌∙◌, sym, subst, arith, true, false, cond, Bool, ◌==◌, ◌||◌, ◌&&◌, not, nat_le, Some, None}
 use Rattle.std.proofs.lemmas.Bool.{eqb-true}
 use Rattle.std.proofs.Math.Seq.{take-add}
+use Rattle.rif_lex.proofs.TestLemmas.{by_test, differs}
 use Rattle.std.specs.declared.option.Option.{Option}
 use Rattle.rif_lex.specs.declared.class.Class.{Class}
 use Rattle.rif_lex.specs.declared.class.Class.TheVariants.{White, Letter, Zero, Digit, Underscore, Minus, Question, Quote, Less, Open, Close, OpenSquare, CloseSquare, Equal, Hash, Caret, Other}
@@ -28,33 +29,21 @@ line_feeds-add m n xs front more = rw take-add (omega (arith, line_feeds-append 
 line_feeds-more : (b n : ℕ) (bs : List ℕ) → (b == 10) ≡ false → line_feeds (take n bs) ≡ 0 → line_feeds (take (suc n) (b ∷ bs)) ≡ 0
 line_feeds-more b n bs other front = rw other front
 
--- a choice by a test, taken apart
-by_test : {A P : Type 0} (test : Bool) (x y z : A) → cond test x y ≡ z → (test ≡ true → x ≡ z → P) → (test ≡ false → y ≡ z → P) → P
-by_test true x y z e holds fails = holds refl e
-by_test false x y z e holds fails = fails refl e
-
--- a byte for which a test says what it doesn't say for a line feed
-differs : (p : ℕ → Bool) (b : ℕ) → p b ≡ true → p 10 ≡ false → (b == 10) ≡ false
-differs p b holds never = elim (b == 10) as (λ v. (b == 10) ≡ v → v ≡ false) [
-  | true ↦ λ same. (let e : b ≡ 10 = eqb-true b 10 same in let f = ap p e in cc)
-  | false ↦ λ _. refl
-] refl
-
 name_in_line : (bs : List ℕ) → line_feeds (take (name_length bs) bs) ≡ 0
 name_in_line [] = refl
 name_in_line (b ∷ bs) = elim (is_name (class_at b) bs) as (λ v. is_name (class_at b) bs ≡ v → line_feeds (take (cond v (suc (name_length bs)) 0) (b ∷ bs)) ≡ 0) [
-  | true ↦ λ holds. line_feeds-more b (name_length bs) bs (differs (λ x. is_name (class_at x) bs) b holds refl) (name_in_line bs)
+  | true ↦ λ holds. line_feeds-more b (name_length bs) bs (differs (λ x. is_name (class_at x) bs) b 10 holds refl) (name_in_line bs)
   | false ↦ λ _. refl
 ] refl
 
 digits_in_line : (bs : List ℕ) → line_feeds (take (digits_length bs) bs) ≡ 0
 digits_in_line [] = refl
 digits_in_line (b ∷ bs) = elim (is_digit (class_at b)) as (λ v. is_digit (class_at b) ≡ v → line_feeds (take (cond v (suc (digits_length bs)) 0) (b ∷ bs)) ≡ 0) [
-  | true ↦ λ holds. line_feeds-more b (digits_length bs) bs (differs (λ x. is_digit (class_at x)) b holds refl) (digits_in_line bs)
+  | true ↦ λ holds. line_feeds-more b (digits_length bs) bs (differs (λ x. is_digit (class_at x)) b 10 holds refl) (digits_in_line bs)
   | false ↦ λ _. refl
 ] refl
 
-longer_one : (o : Option ℕ) (n : ℕ) → longer 1 o ≡ Some n → (m : ℕ) × (o ≡ Some m) × (n ≡ suc m)
+pub longer_one : (o : Option ℕ) (n : ℕ) → longer 1 o ≡ Some n → (m : ℕ) × (o ≡ Some m) × (n ≡ suc m)
 longer_one None n e = cc
 longer_one (Some m) n e = (m, refl, (let k : 1 + m ≡ n = cc in omega arith))
 
@@ -72,7 +61,7 @@ mutual
   string_in_line : (bs : List ℕ) (n : ℕ) → string_length bs ≡ Some n → line_feeds (take n bs) ≡ 0
   string_in_line [] n e = cc
   string_in_line (b ∷ bs) n e =
-      by_test (b == 34) _ _ _ e (λ quote f. one_in_line b n bs (differs (λ x. x == 34) b quote refl) f) (λ _ f.
+      by_test (b == 34) _ _ _ e (λ quote f. one_in_line b n bs (differs (λ x. x == 34) b 10 quote refl) f) (λ _ f.
       by_test (b == 10) _ _ _ f (λ _ g. cc) (λ other g.
       by_test (b == 92) _ _ _ g
       (λ _ h. in_line_to b n bs (escaped_length bs) other h (escaped_in_line bs))
@@ -82,15 +71,15 @@ mutual
   escaped_in_line [] n e = cc
   escaped_in_line (b ∷ bs) n e =
       by_test (is_escape b) _ _ _ e
-      (λ escape f. in_line_to b n bs (string_length bs) (differs is_escape b escape refl) f (string_in_line bs))
+      (λ escape f. in_line_to b n bs (string_length bs) (differs is_escape b 10 escape refl) f (string_in_line bs))
       (λ _ f. cc)
 
 iri_in_line : (bs : List ℕ) (n : ℕ) → iri_length bs ≡ Some n → line_feeds (take n bs) ≡ 0
 iri_in_line [] n e = cc
 iri_in_line (b ∷ bs) n e =
-    by_test (b == 62) _ _ _ e (λ end f. one_in_line b n bs (differs (λ x. x == 62) b end refl) f) (λ _ f.
+    by_test (b == 62) _ _ _ e (λ end f. one_in_line b n bs (differs (λ x. x == 62) b 10 end refl) f) (λ _ f.
     by_test (is_inside_iri b) _ _ _ f
-    (λ inside g. in_line_to b n bs (iri_length bs) (differs is_inside_iri b inside refl) g (iri_in_line bs))
+    (λ inside g. in_line_to b n bs (iri_length bs) (differs is_inside_iri b 10 inside refl) g (iri_in_line bs))
     (λ _ g. cc))
 
 begins_in_line : (c : ℕ) (bs : List ℕ) → (c == 10) ≡ false → begins c bs ≡ true → line_feeds (take 1 bs) ≡ 0
@@ -133,7 +122,7 @@ signs_in_line : (b c n : ℕ) (kind k : Kind) (bs : List ℕ) → (b == 10) ≡ 
 signs_in_line b c n kind k bs other second is e =
     let to : 2 ≡ n = cc in rw (← to) (line_feeds-more b 1 bs other (begins_in_line c bs second is))
 
-no_lexeme : {P : Type 0} (k : Kind) (n : ℕ) (end : Option ℕ) → blank_to end ≡ Lexeme k n → P
+pub no_lexeme : {P : Type 0} (k : Kind) (n : ℕ) (end : Option ℕ) → blank_to end ≡ Lexeme k n → P
 no_lexeme k n None e = cc
 no_lexeme k n (Some m) e = cc
 

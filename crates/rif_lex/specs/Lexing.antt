@@ -1,6 +1,7 @@
 -- What an input leads to: all its tokens, in order and to its end, or the first refusal that stands.
 -- Source: the project's own (docs/FORMATS.md, "Tokens").
-use Rattle.std.specs.Prelude.{length, ◌≡◌, ℕ, ◌+◌, pred, nat_lt, if◌then◌else◌, List, [], ◌∷◌, ◌++◌, suc, zero, Ok, Err}
+use Rattle.std.specs.Prelude.{length, ◌≡◌, ◌≤◌, ◌↔◌, IsUtf8, ℕ, ◌+◌, pred, nat_lt, if◌then◌else◌, List, [], ◌∷◌, ◌++◌, suc, zero, Ok, Err}
+use Rattle.std.specs.Str.{is_utf8}
 use Rattle.std.specs.Str.Lossy.{utf8_valid_len}
 use Rattle.std.specs.declared.result.Result.{Result}
 use Rattle.rif_terms.specs.declared.limits.TheConstants.{MOST_INPUT_BYTES}
@@ -42,11 +43,19 @@ tokens_of text = tokens_from 0 first_place text
 abbrev pub lexed : List ℕ → Result (List Token) Refusal
 lexed bytes =
     if nat_lt MOST_INPUT_BYTES (length bytes) then Err InputTooLong
-    else (if nat_lt (utf8_valid_len bytes) (length bytes) then Err (NotUtf8 (utf8_valid_len bytes))
-    else tokens_of bytes)
+    else (if is_utf8 bytes then tokens_of bytes else Err (NotUtf8 (utf8_valid_len bytes)))
 
 -- a call answers what is given, unless memory ran out
 abbrev pub Answers : {T : Type 0} → Result T Fault → Result T Refusal → Type 0
 Answers (Ok x) given = given ≡ Ok x
 Answers (Err (Refused refusal)) given = given ≡ Err refusal
 Answers (Err OutOfMemory) given = Unit {0}
+
+-- Law: an input has tokens exactly where it isn't too long, is UTF-8, and its text has these tokens.
+pub record IsInput (bytes : List ℕ) (ts : List Token) : Type 0 where
+  pub short : length bytes ≤ MOST_INPUT_BYTES
+  pub utf8 : IsUtf8 bytes
+  pub tokens : tokens_of bytes ≡ Ok ts
+
+abbrev pub InputsAreTexts : Type 0
+InputsAreTexts = (bytes : List ℕ) (ts : List Token) → (lexed bytes ≡ Ok ts) ↔ IsInput bytes ts

@@ -1,6 +1,6 @@
 -- Lines and columns. Lines are counted from 1 by line feeds, columns from 1 by characters.
 -- Source: the project's own (docs/FORMATS.md, "Tokens").
-use Rattle.std.specs.Prelude.{ℕ, ◌+◌, ◌==◌, not, Bool, if◌then◌else◌, List, [], ◌∷◌, suc, take}
+use Rattle.std.specs.Prelude.{ℕ, ◌+◌, ◌==◌, ◌||◌, not, Bool, false, if◌then◌else◌, List, [], ◌∷◌, suc, take}
 use Rattle.rif_lex.specs.declared.place.Place.{Place}
 use Rattle.rif_lex.specs.Characters.{is_between}
 
@@ -18,10 +18,14 @@ abbrev pub characters : List ℕ → ℕ
 characters [] = 0
 characters (b ∷ bs) = if begins_character b then suc (characters bs) else characters bs
 
--- what stands behind the last line feed of a text
+abbrev pub has_line_feed : List ℕ → Bool
+has_line_feed [] = false
+has_line_feed (b ∷ bs) = b == 10 || has_line_feed bs
+
+-- what stands behind the last line feed of a text, or all of it
 abbrev pub last_line : List ℕ → List ℕ
 last_line [] = []
-last_line (b ∷ bs) = if line_feeds (b ∷ bs) == 0 then b ∷ bs else last_line bs
+last_line (b ∷ bs) = if has_line_feed (b ∷ bs) then last_line bs else b ∷ bs
 
 -- the line and the column of the character that begins at a byte, of which so many stand before it
 abbrev pub line_at : List ℕ → ℕ → ℕ

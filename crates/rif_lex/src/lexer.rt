@@ -15,7 +15,7 @@ use std::alloc::Global;
 /// nothing, and takes memory for the tokens alone.
 ///
 /// Source: our own (docs/FORMATS.md, "Tokens").
-#[tactic(auto, using(crate::proofs::LexingLemmas::lexed_text))]
+#[tactic(auto, using(crate::proofs::LexingLemmas::lexed_text, crate::proofs::LexingLemmas::lexed_broken))]
 pub fn tokens(alloc: Global, bytes: &[u8]) -> Result<Tokens, Fault>
     ensures { Answers result (lexed bytes.now) }
 {

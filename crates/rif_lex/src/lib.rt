@@ -14,11 +14,16 @@
 #![tactic(auto)]
 
 mod class;
+mod laws;
 mod lexer;
 mod piece;
 mod place;
 mod scan;
 mod token;
 
+pub use laws::{
+    bad_token_is_first, few_tokens, inputs_are_texts, slices_are_tokens, spans_rise,
+    spelled_is_lexed, tokens_are_cut, tokens_are_placed,
+};
 pub use lexer::tokens;
 pub use token::{Kind, Token, Tokens};

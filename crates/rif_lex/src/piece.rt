@@ -28,7 +28,16 @@ impl Piece {
         ensures is { result ≡ piece_at text.now }
         ensures fits { FitsIn result (length text.now) }
     {
-        match class_of(text[0]) {
+        Piece::of_class(class_of(text[0]), text)
+    }
+
+    /// The piece at the front of a text whose first byte has the class.
+    #[inline(always)]
+    fn of_class(class: Class, text: &[u8]) -> Piece
+        requires { 0 < length text.now }
+        ensures { result ≡ piece_of class text.now }
+    {
+        match class {
             Class::White => Piece::Blank(1),
             Class::Letter => word(text),
             Class::Zero => integer(text, 1),
@@ -53,8 +62,7 @@ impl Piece {
 /// A word or a CURIE.
 fn word(text: &[u8]) -> Piece
     requires { 0 < length text.now }
-    ensures is { result ≡ piece_of Letter text.now }
-    ensures fits { FitsIn result (length text.now) }
+    ensures { result ≡ piece_of Letter text.now }
 {
     let end = name_end(text, 1);
     if has_at(text, end, b':') {
@@ -67,8 +75,7 @@ fn word(text: &[u8]) -> Piece
 /// A sign and the name behind it.
 fn name(kind: Kind, text: &[u8]) -> Piece
     requires { 0 < length text.now }
-    ensures is { let n = name_length (drop 1 text.now) in result ≡ named kind n }
-    ensures fits { FitsIn result (length text.now) }
+    ensures { let n = name_length (drop 1 text.now) in result ≡ named kind n }
 {
     let end = name_end(text, 1);
     if end == 1 {
@@ -82,8 +89,7 @@ fn name(kind: Kind, text: &[u8]) -> Piece
 fn integer(text: &[u8], end: usize) -> Piece
     requires low { 0 < end }
     requires high { end ≤ length text.now }
-    ensures is { result ≡ integer_to end text.now }
-    ensures fits { FitsIn result (length text.now) }
+    ensures { result ≡ integer_to end text.now }
 {
     if (end < text.len() && is_name_at(text, end)) || has_at(text, end, b':') {
         Piece::Unreadable
@@ -95,8 +101,7 @@ fn integer(text: &[u8], end: usize) -> Piece
 /// An arrow, or an integer below 0.
 fn minus(text: &[u8]) -> Piece
     requires { 0 < length text.now }
-    ensures is { result ≡ piece_of Minus text.now }
-    ensures fits { FitsIn result (length text.now) }
+    ensures { result ≡ piece_of Minus text.now }
 {
     if has_at(text, 1, b'>') {
         Piece::Lexeme(Kind::Arrow, 2)
@@ -110,8 +115,7 @@ fn minus(text: &[u8]) -> Piece
 /// An opening bracket or an annotation.
 fn bracket(text: &[u8]) -> Piece
     requires { 0 < length text.now }
-    ensures is { result ≡ piece_of Open text.now }
-    ensures fits { FitsIn result (length text.now) }
+    ensures { result ≡ piece_of Open text.now }
 {
     if !has_at(text, 1, b'*') {
         return Piece::Lexeme(Kind::Open, 1);
@@ -134,10 +138,8 @@ fn token_up_to(kind: Kind, end: Option<usize>) -> Piece
 
 /// What one sign is, or the token of two such signs.
 fn one_or_two(text: &[u8], sign: u8, one: Piece, two: Kind) -> Piece
-    requires some { 0 < length text.now }
-    requires one { FitsIn one 1 }
-    ensures is { result ≡ (if begins sign (drop 1 text.now) then Lexeme two 2 else one) }
-    ensures fits { FitsIn result (length text.now) }
+    requires { 0 < length text.now }
+    ensures { result ≡ (if begins sign (drop 1 text.now) then Lexeme two 2 else one) }
 {
     if has_at(text, 1, sign) {
         Piece::Lexeme(two, 2)
