@@ -45,8 +45,10 @@ fn push_tokens(found: &mut Vec<Token>, text: &[u8]) -> Result<(), Fault>
         let rest = &text[place.offset..];
         match Piece::at_front(rest) {
             Piece::Unreadable => {
-                let Place { line, col, .. } = place;
-                return Err(Fault::Refused(Refusal::BadToken { line, col }));
+                return Err(Fault::Refused(Refusal::BadToken {
+                    line: place.line,
+                    col: place.col,
+                }));
             }
             Piece::Blank(length) => place = past(place, &rest[..length]),
             Piece::Lexeme(kind, length) => {

@@ -27,3 +27,6 @@ pub use laws::{
 };
 pub use lexer::tokens;
 pub use token::{Kind, Token, Tokens};
+
+#[cfg(test)]
+mod tests;
