@@ -1,0 +1,11 @@
+pub mod TestLemmas
+pub mod ScanLemmas
+pub mod FitLemmas
+pub mod PlaceLemmas
+pub mod LineLemmas
+pub mod LexingLemmas
+pub mod FrontLemmas
+pub mod AloneLemmas
+pub mod SpellingLemmas
+pub mod CuttingLemmas
+pub mod SpanLemmas

@@ -1,0 +1,48 @@
+ghost use Rattle.rif_lex.specs.Lexing.{InputsAreTexts};
+ghost use Rattle.rif_lex.specs.Cutting.{TokensAreCut, BadTokenIsFirst, SpansRise, TokensArePlaced, FewTokens};
+ghost use Rattle.rif_lex.specs.Spelling.{SlicesAreTokens, SpelledIsLexed};
+
+/// Law: an input has tokens exactly where it isn't too long, is UTF-8, and its text has them.
+pub fn inputs_are_texts()
+    ensures { InputsAreTexts }
+{}
+
+/// Law: a text that has tokens is cut into pieces to its end, and its tokens are those among them.
+#[tactic(auto, using(crate::proofs::CuttingLemmas::tokens_are_cut))]
+pub fn tokens_are_cut()
+    ensures { TokensAreCut }
+{}
+
+/// Law: where a token can't be read, all before it is cut into pieces, and no piece begins there.
+#[tactic(auto, using(crate::proofs::CuttingLemmas::bad_token_is_first))]
+pub fn bad_token_is_first()
+    ensures { BadTokenIsFirst }
+{}
+
+/// Law: the spans of tokens rise, and lie within the text.
+#[tactic(auto, using(crate::proofs::SpanLemmas::spans_rise))]
+pub fn spans_rise()
+    ensures { SpansRise }
+{}
+
+/// Law: the slice of a token's span is, alone, one token of its kind, and has no line feed.
+pub fn slices_are_tokens()
+    ensures { SlicesAreTokens }
+{}
+
+/// Law: a token's line and column are those of its first character.
+pub fn tokens_are_placed()
+    ensures { TokensArePlaced }
+{}
+
+/// Law: there are at most as many tokens as bytes.
+#[tactic(auto, using(crate::proofs::SpanLemmas::few_tokens))]
+pub fn few_tokens()
+    ensures { FewTokens }
+{}
+
+/// Law: tokens that are written one behind another, each where it ends, are lexed to these tokens.
+#[tactic(auto, using(crate::proofs::SpellingLemmas::spelled_is_lexed))]
+pub fn spelled_is_lexed()
+    ensures { SpelledIsLexed }
+{}
