@@ -1,20 +1,22 @@
--- What the bytes of a job have: the text of a run, or a refusal.
--- Source: the project's own (docs/FORMATS.md, "Jobs").
+-- The text of the run of a job.
+-- Source: the project's own (docs/FORMATS.md, "Jobs" and "The trace").
 use Rattle.std.specs.Prelude.{◌≡◌, ℕ, List}
-use Rattle.rif_terms.specs.declared.fault.Fault.{Fault}
-use Rattle.rif_terms.specs.declared.fault.Fault.TheVariants.{Refused, OutOfMemory}
-use Rattle.rif_terms.specs.declared.refusal.Refusal.{Refusal}
-use Rattle.rif_terms.specs.declared.refusal.Refusal.TheVariants.{LeftOut}
+use Rattle.session_states.specs.declared.item.Entry.{Entry}
+use Rattle.prd_relation.specs.Runs.{IsReplay, run_of, facts_at_end}
+use Rattle.rif_script.specs.declared.job.Job.{Job}
+use Rattle.rif_script.specs.Cutting.{HasItsClients, script_entries, batches_of_entries, left_of_entries}
+use Rattle.rif_script.specs.Trace.{run_text}
 
--- the input is a job, and this is the text of its run; so far no input is one
-unfoldable pub IsRunText : List ℕ → List ℕ → Type 0
-IsRunText input text = ⊥
+-- the text is that of the run of these batches, with what is left of the job's script
+abbrev pub IsTextOf : Job → List (List Entry) → List ℕ → Type 0
+IsTextOf job batches text =
+    text ≡ run_text job (run_of job.doc batches) (left_of_entries (script_entries job)) (facts_at_end job.doc batches)
 
--- the input has this refusal; so far each has the same one
-unfoldable pub IsRefusal : List ℕ → Refusal → Type 0
-IsRefusal input refusal = refusal ≡ LeftOut 1 1
+-- the text is that of the job's run: of the batches of its script, with an empty one after each firing
+abbrev pub IsRunOf : Job → List ℕ → Type 0
+IsRunOf job text =
+    (batches : List (List Entry)) × IsReplay job.doc (batches_of_entries (script_entries job)) batches × IsTextOf job batches text
 
--- the input has no text for this reason, or none for want of memory
-abbrev pub IsFault : List ℕ → Fault → Type 0
-IsFault input (Refused refusal) = IsRefusal input refusal
-IsFault input OutOfMemory = Unit {0}
+-- the text is that of a job's run; which job an input is, isn't said yet
+abbrev pub IsRunText : List ℕ → Type 0
+IsRunText text = (job : Job) × HasItsClients job × IsRunOf job text

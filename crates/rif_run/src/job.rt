@@ -1,13 +1,35 @@
-ghost use Rattle.std.specs.Prelude.{MatchResult, Ok};
-ghost use Rattle.rif_run.specs.Job.{IsFault, IsRunText};
+ghost use Rattle.std.specs.Prelude.{IfOk};
+ghost use Rattle.rif_script.specs.Cutting.{HasItsClients};
+ghost use Rattle.rif_run.specs.Job.{IsRunOf, IsRunText};
 
-use rif_terms::{Fault, Refusal};
+use prd_relation::replay_plain;
+use rif_script::{Job, batches_of, read_job, write_run};
+use rif_terms::{Fault, OutOfMemory};
 use std::alloc::Global;
 
-/// The text of the run of a job, or why there is none. So far each input is refused at its start.
-#[tactic(auto, unfolding(crate::specs::Job::IsRefusal))]
+/// The text of the run of the job that the bytes are, or why there is none. The run is the plain
+/// program's, whose cost grows with the state.
 pub fn run_text(alloc: Global, bytes: &[u8]) -> Result<Vec<u8>, Fault>
-    ensures { MatchResult result (λ text. IsRunText bytes.now text.items) (IsFault bytes.now) }
+    ensures { IfOk result (λ text. IsRunText text.items) }
 {
-    Err(Fault::Refused(Refusal::LeftOut { line: 1, col: 1 }))
+    let job = read_job(alloc, bytes)?;
+    Ok(text_of_job(alloc, &job)?)
+}
+
+fn text_of_job(alloc: Global, job: &Job) -> Result<Vec<u8>, OutOfMemory>
+    requires { HasItsClients job.now }
+    ensures { IfOk result (λ text. IsRunOf job.now text.items) }
+{
+    let (batches, left) = batches_of(alloc, job)?;
+    let run = replay_plain(alloc, &job.doc, batches)?;
+    let mut text = Vec::new(alloc);
+    write_run(
+        alloc,
+        &mut text,
+        job,
+        run.turns.as_slice(),
+        left.as_slice(),
+        run.facts,
+    )?;
+    Ok(text)
 }

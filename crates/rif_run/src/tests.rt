@@ -13,18 +13,50 @@ fn texts(alloc: Global, words: &[&str]) -> Result<Vec<Text>, OutOfMemory> {
     Ok(texts)
 }
 
+const DISCOUNT: &[u8] = b"Document(Group(Forall ?c (If ?c # _Customer Then Do(Assert(?c[_discount->5])))))
+%%
+a assert _c1 # _Customer
+a fire 10
+";
+
+const RUN_OF_DISCOUNT: &[u8] = b"turn 1
+in a assert _c1 # _Customer
+in a fire 10
+fired 1 ?c=_c1
++ _c1[_discount->5]
+turn 2
+quiet
+end turns 2 firings 1 facts 2
+";
+
+fn discount(alloc: Global) -> Result<Vec<u8>, AllocError> {
+    DISCOUNT.to_vec(alloc)
+}
+
 fn spaces(alloc: Global, count: usize) -> Result<Vec<u8>, AllocError> {
     vec![in alloc; b' '; count]
+}
+
+#[test]
+fn a_job_is_run(rt: HostRuntime) -> Result<(), Fail> {
+    let alloc = rt.alloc();
+    let words = texts(alloc, &["run"])?;
+    let mut source = MemSource::new(discount(alloc)?, 16, Vec::new(alloc));
+    let mut sink = MemSink::new(alloc, 512, 8, Vec::new(alloc))?;
+    let status = rif_run(alloc, &words, &mut source, &mut sink);
+    assert!(rt; status == Status::Done);
+    assert_eq!(rt; sink.bytes(), RUN_OF_DISCOUNT);
+    Ok(())
 }
 
 #[test]
 fn a_failing_third_read_is_a_read_fault(rt: HostRuntime) -> Result<(), Fail> {
     let alloc = rt.alloc();
     let words = texts(alloc, &["run"])?;
-    let mut source = MemSource::new(spaces(alloc, 64)?, 16, vec![in alloc; 3]?);
-    let mut sink = MemSink::new(alloc, 64, 64, Vec::new(alloc))?;
+    let mut source = MemSource::new(discount(alloc)?, 16, vec![in alloc; 3]?);
+    let mut sink = MemSink::new(alloc, 512, 64, Vec::new(alloc))?;
     let status = rif_run(alloc, &words, &mut source, &mut sink);
-    assert_eq!(rt; status, Status::ReadFault);
+    assert!(rt; status == Status::ReadFault);
     assert!(rt; sink.bytes().is_empty());
     Ok(())
 }
@@ -33,11 +65,23 @@ fn a_failing_third_read_is_a_read_fault(rt: HostRuntime) -> Result<(), Fail> {
 fn a_failing_second_write_is_a_write_fault(rt: HostRuntime) -> Result<(), Fail> {
     let alloc = rt.alloc();
     let words = texts(alloc, &["run"])?;
-    let mut source = MemSource::new(spaces(alloc, 64)?, 16, Vec::new(alloc));
-    let mut sink = MemSink::new(alloc, 64, 8, vec![in alloc; 2]?)?;
+    let mut source = MemSource::new(discount(alloc)?, 16, Vec::new(alloc));
+    let mut sink = MemSink::new(alloc, 512, 8, vec![in alloc; 2]?)?;
     let status = rif_run(alloc, &words, &mut source, &mut sink);
-    assert_eq!(rt; status, Status::WriteFault);
-    assert_eq!(rt; sink.bytes(), b"refused ".as_slice());
+    assert!(rt; status == Status::WriteFault);
+    assert_eq!(rt; sink.bytes(), b"turn 1\ni".as_slice());
+    Ok(())
+}
+
+#[test]
+fn an_input_that_is_no_job_is_refused(rt: HostRuntime) -> Result<(), Fail> {
+    let alloc = rt.alloc();
+    let words = texts(alloc, &["run"])?;
+    let mut source = MemSource::new(spaces(alloc, 64)?, 16, Vec::new(alloc));
+    let mut sink = MemSink::new(alloc, 64, 64, Vec::new(alloc))?;
+    let status = rif_run(alloc, &words, &mut source, &mut sink);
+    assert!(rt; status == Status::Refused);
+    assert_eq!(rt; sink.bytes(), b"refused 8 line 1 col 1\n".as_slice());
     Ok(())
 }
 

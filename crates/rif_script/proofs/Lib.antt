@@ -1,3 +1,4 @@
+pub mod ClientLemmas
 pub mod CuttingLemmas
 pub mod LawLemmas
 pub mod RankLemmas

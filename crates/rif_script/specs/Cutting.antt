@@ -10,9 +10,12 @@ use Rattle.session_states.specs.declared.item.Item.TheVariants.{Change, Fire, Un
 use Rattle.session_states.specs.declared.item.Entry.{Entry}
 use Rattle.rif_script.specs.declared.job.Job.{Job}
 
--- each item is of one of the job's clients
+-- each item is of one of the clients with these names
+abbrev pub AreOfClients : List (List ℕ) → List (ℕ × Item) → Type 0
+AreOfClients names items = All (λ sent. sent.0 < length names) items
+
 abbrev pub HasItsClients : Job → Type 0
-HasItsClients job = All (λ sent. sent.0 < length job.names) job.items
+HasItsClients job = AreOfClients job.names job.items
 
 -- how many of the items a client sent
 abbrev pub sent_count : ℕ → List (ℕ × Item) → ℕ

@@ -2,7 +2,9 @@
 //!
 //! | File | Has | Its words |
 //! |---|---|---|
-//! | `job.rt` | `Job`, a document and the items of its clients | |
+//! | `job.rt` | `Job`, a document and the items of its clients; `read_job` | |
+//! | `document_part.rt` | where a job's document ends and its script begins | |
+//! | `script.rt`, `script_line.rt` | the clients and items of a script, and what a line of it is | |
 //! | `cutting.rt` | `batches_of`, the batches of a job for one thread | `specs/Cutting.antt` |
 //! | `lines.rt` | the lines of items | `specs/Lines.antt` |
 //! | `trace.rt` | `write_run`, the text of a run: a trace line is made here | `specs/Trace.antt` |
@@ -14,10 +16,11 @@
 //! | `fault_plan.rt` | which calls on a form in memory fail | `specs/InMemory.antt` |
 //! | `standard.rt` | `StdSource` and `StdSink`, over std's readers and writers | `specs/Standard.antt` |
 //!
-//! Begin at `write_run`, and for input and output at `Source` and `Sink`.
+//! Begin at `read_job` and `write_run`, and for input and output at `Source` and `Sink`.
 #![tactic(auto)]
 
 mod cutting;
+mod document_part;
 mod failed;
 mod fault_plan;
 mod job;
@@ -26,6 +29,8 @@ mod lines;
 mod memory_sink;
 mod memory_source;
 mod refusal_line;
+mod script;
+mod script_line;
 mod sink;
 mod source;
 mod standard;
@@ -35,7 +40,7 @@ mod trace;
 
 pub use cutting::batches_of;
 pub use failed::Failed;
-pub use job::Job;
+pub use job::{Job, read_job};
 pub use memory_sink::MemSink;
 pub use memory_source::MemSource;
 pub use refusal_line::write_refusal;

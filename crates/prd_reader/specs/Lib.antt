@@ -1,0 +1,5 @@
+pub mod FirstForm
+pub mod Leaves
+pub mod Reading
+pub mod Trees
+pub mod Values

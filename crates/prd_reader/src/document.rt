@@ -1,0 +1,63 @@
+use crate::leaves::Leaves;
+use crate::refusing::left_out;
+use crate::rule::read_rule;
+use crate::spacing::{are_ascii, are_spaced};
+use rif_lex::{Kind, Tokens};
+use rif_terms::{Doc, Fault, Rule};
+use sqlite_items::Items;
+use std::alloc::Global;
+
+/// The document that the tokens of these bytes stand for, all of them. A document that isn't of the first
+/// form is refused as left out, at line 1, column 1. The cost is the bytes' length.
+///
+/// Source: our own (docs/FORMATS.md, "The first form").
+pub fn read_doc(alloc: Global, tokens: &Tokens, bytes: &[u8]) -> Result<Doc, Fault> {
+    let tokens = tokens.as_slice();
+    if !are_ascii(bytes) {
+        return Err(left_out());
+    }
+    if !are_spaced(tokens, bytes) {
+        return Err(left_out());
+    }
+    read_all(alloc, Leaves::new(tokens, bytes))
+}
+
+// The document that the leaves are, all of them.
+fn read_all(alloc: Global, at: Leaves<'_>) -> Result<Doc, Fault> {
+    let (rules, rest) = read_document(alloc, at)?;
+    if !rest.is_empty() {
+        return Err(left_out());
+    }
+    Ok(Doc { rules })
+}
+
+// The rules of the document at the front.
+fn read_document<'a>(alloc: Global, at: Leaves<'a>) -> Result<(Items<Rule>, Leaves<'a>), Fault> {
+    let at = at.past_word(b"Document")?;
+    let at = at.past(Kind::Open)?;
+    let (rules, at) = read_group(alloc, at)?;
+    let at = at.past(Kind::Close)?;
+    Ok((rules, at))
+}
+
+// The rules of the group at the front, and none where there is no group.
+fn read_group<'a>(alloc: Global, at: Leaves<'a>) -> Result<(Items<Rule>, Leaves<'a>), Fault> {
+    if !at.begins_word(b"Group") {
+        return Ok((Items::new(alloc), at));
+    }
+    let at = at.rest().past(Kind::Open)?;
+    let (rules, at) = read_members(alloc, at)?;
+    let at = at.past(Kind::Close)?;
+    Ok((rules, at))
+}
+
+// The rule at the front, if any.
+fn read_members<'a>(alloc: Global, at: Leaves<'a>) -> Result<(Items<Rule>, Leaves<'a>), Fault> {
+    let mut rules = Items::new(alloc);
+    if at.begins(Kind::Close) {
+        return Ok((rules, at));
+    }
+    let (one, at) = read_rule(alloc, at)?;
+    rules.push(one)?;
+    Ok((rules, at))
+}

@@ -1,0 +1,38 @@
+//! The reader: the document that tokens stand for. It reads documents of the first form, which have one
+//! rule at most, and facts as scripts have them.
+//!
+//! | File | Has | Its words |
+//! |---|---|---|
+//! | `document.rt` | `read_doc`, the document of all tokens | `specs/FirstForm.antt` |
+//! | `rule.rt` | a rule | `specs/Trees.antt`, `specs/Values.antt` |
+//! | `action.rt` | the actions of a rule | `specs/Trees.antt`, `specs/Values.antt` |
+//! | `condition.rt` | the condition of a rule | `specs/Trees.antt`, `specs/Values.antt` |
+//! | `fact.rt` | `read_fact`, the fact that tokens stand for | `specs/FirstForm.antt` |
+//! | `statement.rt` | a membership or a frame | `specs/Trees.antt`, `specs/Values.antt` |
+//! | `term.rt` | constants and variables | `specs/Leaves.antt` |
+//! | `names.rt` | the names of a rule's variables | `specs/FirstForm.antt` |
+//! | `leaves.rt` | the tokens that are left to read | `specs/Leaves.antt` |
+//! | `spacing.rt` | `are_ascii`, `are_spaced`: that bytes are ASCII, and have no annotation | `specs/FirstForm.antt` |
+//! | `refusing.rt` | `left_out`, the refusal of all else | |
+//!
+//! Begin at `read_doc`.
+#![tactic(auto)]
+
+mod action;
+mod condition;
+mod document;
+mod fact;
+mod leaves;
+mod refusing;
+mod names;
+mod rule;
+mod spacing;
+mod statement;
+mod term;
+
+pub use document::read_doc;
+pub use fact::read_fact;
+pub use leaves::Leaves;
+pub use refusing::left_out;
+pub use spacing::{are_ascii, are_spaced};
+pub use term::read_number;
