@@ -1,5 +1,5 @@
 -- What the cut of a script keeps.
-use Rattle.std.proofs.Common.{zero, suc, lit<, ◌≡◌, ◌≢◌, ℕ, ◌<◌, ◌+◌, ◌==◌, ◌||◌, Bool, true, false, List, [], ◌∷◌, ◌++◌, length, refl, sym, ap, ◌∙◌, cond, subst, arith, take, drop, length-append}
+use Rattle.std.proofs.Common.{zero, suc, lit<, ◌≡◌, ◌≢◌, ℕ, ◌<◌, ◌+◌, ◌==◌, ◌||◌, Bool, true, false, List, [], ◌∷◌, ◌++◌, length, refl, sym, ap, ◌∙◌, cond, subst, take, drop, length-append}
 use Rattle.rif_terms.specs.declared.limits.TheConstants.{MOST_BATCH_ITEMS}
 use Rattle.session_states.specs.declared.item.Item.{Item}
 use Rattle.session_states.specs.declared.item.Entry.{Entry}

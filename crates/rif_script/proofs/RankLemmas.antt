@@ -1,5 +1,5 @@
 -- One more item: its entry, and the counts of the clients' items.
-use Rattle.std.proofs.Common.{zero, suc, All, ◌≡◌, ◌≢◌, ◌≤◌, ℕ, ◌<◌, ◌+◌, ◌==◌, Bool, true, false, List, [], ◌∷◌, ◌++◌, length, refl, sym, ap, ◌∙◌, subst, arith, take, drop, get_or, set, drop-cons, add-one, get_or-set_other, get_or-set_same, append_assoc, length-set}
+use Rattle.std.proofs.Common.{suc, All, ◌≡◌, ◌≢◌, ◌≤◌, ℕ, ◌<◌, ◌+◌, ◌==◌, Bool, true, false, List, [], ◌∷◌, ◌++◌, length, refl, sym, ap, ◌∙◌, subst, arith, take, drop, get_or, set, drop-cons, add-one, get_or-set_other, get_or-set_same, append_assoc, length-set}
 use Rattle.std.proofs.Math.Seq.{take-suc}
 use Rattle.std.proofs.lemmas.Bool.{eqb-true, eqb-false}
 use Rattle.std.proofs.lemmas.List.{length-take-le}

@@ -1,8 +1,7 @@
-use Rattle.std.proofs.Common.{◌≡◌, ◌+◌, ◌<◌, ◌++◌, ◌∷◌, ℕ, Bool, [], true, false, length, ap, sym, subst, arith, ◌∙◌}
-use Rattle.std.specs.Vec.Iter.{into_iter_items, into_iter_len}
-use Rattle.rif_terms.specs.declared.limits.TheConstants.{MOST_BATCH_ITEMS}
+use Rattle.std.proofs.Common.{◌≡◌, ◌++◌, ◌∷◌, ℕ, [], true, false, length, ap, sym, subst, arith, ◌∙◌}
+use Rattle.std.specs.Vec.Iter.{into_iter_items}
 use Rattle.rif_script.specs.Cutting.{ends_behind}
-use Rattle.rif_script.proofs.CuttingLemmas.{AreChanges, changes_joined, entry_closes, entry_joins, last_begun, lawful_begun, lawful_closed, none_begun, not_both, room_joined}
+use Rattle.rif_script.proofs.CuttingLemmas.{AreChanges, changes_joined, entry_closes, entry_joins, last_begun, lawful_begun, lawful_closed, not_both, room_joined}
 use Rattle.rif_script.proofs.cutting.batches.Goals as goal
 
 pub from_entries-requires : goal.from_entries-requires

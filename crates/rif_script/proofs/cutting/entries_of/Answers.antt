@@ -1,6 +1,5 @@
-use Rattle.std.proofs.Common.{◌≡◌, ◌+◌, ◌<◌, ◌≤◌, ◌∙◌, ℕ, arith, get_or, length, length-set, take}
+use Rattle.std.proofs.Common.{◌≡◌, ◌+◌, ◌<◌, ◌≤◌, ◌∙◌, arith, get_or, length, length-set}
 use Rattle.std.proofs.lemmas.List.{get_or_default}
-use Rattle.rif_script.specs.Cutting.{sent_count}
 use Rattle.rif_script.proofs.RankLemmas.{client_known, counted_more, few_sent, made_more}
 use Rattle.rif_script.proofs.cutting.entries_of.Goals as goal
 
