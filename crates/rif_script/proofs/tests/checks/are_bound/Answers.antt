@@ -9,4 +9,5 @@ loop-var-preserved c =
     (c.is_bound_var.ensures c.if-not-is_bound_var.false)
 
 pub returns : goal.returns
-returns c = λ t. All-ended (IsBound c.args.rule.now c.args.row.now) c.args.vars.now c.loop-var.var-index c.loop-var.invariant c.loop-var-test.false
+returns c = λ t. All-ended (IsBound c.args.rule.now c.args.row.now) c.args.vars.now c.loop-var.var-index
+    c.loop-var.invariant c.loop-var-test.false
