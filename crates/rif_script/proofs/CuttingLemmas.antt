@@ -1,5 +1,6 @@
 -- How the batch in the making and what is to come make up the batches.
-use Rattle.std.proofs.Common.{zero, suc, ◌≡◌, ℕ, ◌<◌, ◌+◌, ◌==◌, ◌||◌, Bool, true, false, List, [], ◌∷◌, ◌++◌, length, refl, sym, ap, ◌∙◌, append_assoc, cond, subst, arith, length-append}
+use Rattle.std.proofs.Common.{◌≡◌, ℕ, ◌<◌, ◌+◌, ◌==◌, ◌||◌, Bool, true, false, List, [], ◌∷◌, ◌++◌, length, refl, sym}
+use Rattle.std.proofs.Common.{ap, ◌∙◌, append_assoc, cond, subst, arith, length-append}
 use Rattle.std.proofs.lemmas.Bool.{eqb-false}
 use Rattle.std.proofs.lemmas.List.{append-nil, nil_from_length}
 use Rattle.rif_terms.specs.declared.limits.TheConstants.{MOST_BATCH_ITEMS}
@@ -19,7 +20,8 @@ pub joined_first-snoc : (begun : List Entry) (entry : Entry) (batches : List (Li
 joined_first-snoc [] entry batches = refl
 joined_first-snoc (e ∷ begun) entry batches = ap (with_first e) (joined_first-snoc begun entry batches)
 
-pub joined_first-batch : (begun batch : List Entry) (batches : List (List Entry)) → joined_first begun (batch ∷ batches) ≡ (begun ++ batch) ∷ batches
+pub joined_first-batch : (begun batch : List Entry) (batches : List (List Entry)) →
+    joined_first begun (batch ∷ batches) ≡ (begun ++ batch) ∷ batches
 joined_first-batch [] batch batches = refl
 joined_first-batch (e ∷ begun) batch batches = ap (with_first e) (joined_first-batch begun batch batches)
 
@@ -27,35 +29,44 @@ pub joined_first-alone : (entry : Entry) (begun : List Entry) → joined_first (
 joined_first-alone entry [] = refl
 joined_first-alone entry (e ∷ begun) = ap (with_first entry) (joined_first-alone e begun)
 
+-- the batches of entries whose first one ends a batch, or doesn't
+abbrev pub batches_where : Bool → ℕ → Entry → List Entry → List (List Entry)
+batches_where ends before entry entries =
+    cond ends ((entry ∷ []) ∷ batches_behind 0 entries) (with_first entry (batches_behind (before + 1) entries))
+
 -- the batches of the entries that are still to come, behind those that are done and the begun one
 abbrev pub batches_after : List (List Entry) → List Entry → List Entry → List (List Entry)
 batches_after done begun entries = done ++ joined_first begun (batches_behind (length begun) entries)
 
-pub goes_on : (done : List (List Entry)) (begun : List Entry) (entry : Entry) (entries : List Entry) → ends_behind (length begun) entry.item ≡ false →
+pub goes_on : (done : List (List Entry)) (begun : List Entry) (entry : Entry) (entries : List Entry) →
+    ends_behind (length begun) entry.item ≡ false →
     batches_after done (begun ++ entry ∷ []) entries ≡ batches_after done begun (entry ∷ entries)
 goes_on done begun entry entries h =
     let more : length (begun ++ entry ∷ []) ≡ length begun + 1 = length-append begun (entry ∷ []) in
     ap (λ (n : ℕ). done ++ joined_first (begun ++ entry ∷ []) (batches_behind n entries)) more
     ∙ ap (λ (bs : List (List Entry)). done ++ bs) (joined_first-snoc begun entry (batches_behind (length begun + 1) entries))
-    ∙ ap (λ (b : Bool). done ++ joined_first begun (cond b ((entry ∷ []) ∷ batches_behind 0 entries) (with_first entry (batches_behind (length begun + 1) entries)))) (sym h)
+    ∙ ap (λ (b : Bool). done ++ joined_first begun (batches_where b (length begun) entry entries)) (sym h)
 
-pub closes : (done : List (List Entry)) (begun : List Entry) (entry : Entry) (entries : List Entry) → ends_behind (length begun) entry.item ≡ true →
+pub closes : (done : List (List Entry)) (begun : List Entry) (entry : Entry) (entries : List Entry) →
+    ends_behind (length begun) entry.item ≡ true →
     batches_after (done ++ (begun ++ entry ∷ []) ∷ []) [] entries ≡ batches_after done begun (entry ∷ entries)
 closes done begun entry entries h =
     append_assoc done ((begun ++ entry ∷ []) ∷ []) (batches_behind 0 entries)
     ∙ ap (λ (bs : List (List Entry)). done ++ bs) (sym (joined_first-batch begun (entry ∷ []) (batches_behind 0 entries)))
-    ∙ ap (λ (b : Bool). done ++ joined_first begun (cond b ((entry ∷ []) ∷ batches_behind 0 entries) (with_first entry (batches_behind (length begun + 1) entries)))) (sym h)
+    ∙ ap (λ (b : Bool). done ++ joined_first begun (batches_where b (length begun) entry entries)) (sym h)
 
 -- an entry that ends no batch joins the begun batch
 pub entry_joins : (all done : List (List Entry)) (begun more : List Entry) (entry : Entry) (items entries : List Entry) →
     ends_behind (length begun) entry.item ≡ false → more ≡ begun ++ entry ∷ [] → items ≡ entry ∷ entries →
     batches_after done begun items ≡ all → batches_after done more entries ≡ all
 entry_joins all done begun more entry items entries ends pushed first so_far =
-    ap (λ (es : List Entry). batches_after done es entries) pushed ∙ goes_on done begun entry entries ends ∙ ap (batches_after done begun) (sym first) ∙ so_far
+    ap (λ (es : List Entry). batches_after done es entries) pushed ∙ goes_on done begun entry entries ends
+    ∙ ap (batches_after done begun) (sym first) ∙ so_far
 
 -- an entry that ends a batch closes the begun batch
 pub entry_closes : (all done more : List (List Entry)) (begun batch next : List Entry) (entry : Entry) (items entries : List Entry) →
-    ends_behind (length begun) entry.item ≡ true → batch ≡ begun ++ entry ∷ [] → more ≡ done ++ batch ∷ [] → next ≡ [] → items ≡ entry ∷ entries →
+    ends_behind (length begun) entry.item ≡ true → batch ≡ begun ++ entry ∷ [] → more ≡ done ++ batch ∷ [] →
+    next ≡ [] → items ≡ entry ∷ entries →
     batches_after done begun items ≡ all → batches_after more next entries ≡ all
 entry_closes all done more begun batch next entry items entries ends pushed closed emptied first so_far =
     ap (λ (bs : List (List Entry)). batches_after bs next entries) closed
@@ -66,7 +77,8 @@ entry_closes all done more begun batch next entry items entries ends pushed clos
     ∙ so_far
 
 -- where nothing is begun at the end, the batches are done
-pub none_begun : (all done : List (List Entry)) (begun items : List Entry) → begun ≡ [] → length items ≡ 0 → batches_after done begun items ≡ all → done ≡ all
+pub none_begun : (all done : List (List Entry)) (begun items : List Entry) → begun ≡ [] → length items ≡ 0 →
+    batches_after done begun items ≡ all → done ≡ all
 none_begun all done begun items empty ended so_far =
     sym (append-nil done)
     ∙ ap (λ (b : List Entry). batches_after done b []) (sym empty)
@@ -74,7 +86,8 @@ none_begun all done begun items empty ended so_far =
     ∙ so_far
 
 -- what is begun at the end is the last batch
-pub last_begun : (all done more : List (List Entry)) (begun batch items : List Entry) → (begun ≡ [] → ⊥) → batch ≡ begun → more ≡ done ++ batch ∷ [] → length items ≡ 0 →
+pub last_begun : (all done more : List (List Entry)) (begun batch items : List Entry) → (begun ≡ [] → ⊥) →
+    batch ≡ begun → more ≡ done ++ batch ∷ [] → length items ≡ 0 →
     batches_after done begun items ≡ all → more ≡ all
 last_begun all done more [] batch items some same closed ended so_far = absurd (some refl)
 last_begun all done more (entry ∷ begun) batch items some same closed ended so_far =
@@ -89,7 +102,8 @@ abbrev pub AreChanges : List Entry → Type 0
 AreChanges [] = Unit {0}
 AreChanges (entry ∷ entries) = (is_control entry.item ≡ false) × AreChanges entries
 
-pub AreChanges-snoc : (begun : List Entry) (entry : Entry) → AreChanges begun → is_control entry.item ≡ false → AreChanges (begun ++ entry ∷ [])
+pub AreChanges-snoc : (begun : List Entry) (entry : Entry) → AreChanges begun → is_control entry.item ≡ false →
+    AreChanges (begun ++ entry ∷ [])
 AreChanges-snoc [] entry changes h = (h, tt)
 AreChanges-snoc (e ∷ begun) entry changes h = (changes.0, AreChanges-snoc begun entry changes.1 h)
 
@@ -111,7 +125,8 @@ changes_last (e ∷ []) changes = tt
 changes_last (e ∷ next ∷ begun) changes = (ends_no_batch e.item changes.0, changes_last (next ∷ begun) changes.1)
 
 -- changes, and any entry behind them, are a lawful batch
-pub lawful_closed : (begun batch : List Entry) (entry : Entry) → length begun < MOST_BATCH_ITEMS → AreChanges begun → batch ≡ begun ++ entry ∷ [] → IsLawful batch
+pub lawful_closed : (begun batch : List Entry) (entry : Entry) → length begun < MOST_BATCH_ITEMS → AreChanges begun →
+    batch ≡ begun ++ entry ∷ [] → IsLawful batch
 lawful_closed begun batch entry room changes pushed =
     subst IsLawful (sym pushed) (record { few = omega (arith, length-append begun (entry ∷ [])); ends_last = ends_last begun entry changes })
 
@@ -123,15 +138,18 @@ neither true b h = cc
 neither false b h = (refl, h)
 
 -- an entry that ends no batch is a change
-pub changes_joined : (begun more : List Entry) (entry : Entry) → AreChanges begun → ends_behind (length begun) entry.item ≡ false → more ≡ begun ++ entry ∷ [] → AreChanges more
+pub changes_joined : (begun more : List Entry) (entry : Entry) → AreChanges begun →
+    ends_behind (length begun) entry.item ≡ false → more ≡ begun ++ entry ∷ [] → AreChanges more
 changes_joined begun more entry changes ends pushed =
     subst AreChanges (sym pushed) (AreChanges-snoc begun entry changes (neither (is_control entry.item) (length begun + 1 == MOST_BATCH_ITEMS) ends).0)
 
 -- and it leaves room
-pub room_joined : (begun more : List Entry) (entry : Entry) → length begun < MOST_BATCH_ITEMS → ends_behind (length begun) entry.item ≡ false → more ≡ begun ++ entry ∷ [] →
+pub room_joined : (begun more : List Entry) (entry : Entry) → length begun < MOST_BATCH_ITEMS →
+    ends_behind (length begun) entry.item ≡ false → more ≡ begun ++ entry ∷ [] →
     length more < MOST_BATCH_ITEMS
 room_joined begun more entry room ends pushed =
-    let other = eqb-false (length begun + 1) MOST_BATCH_ITEMS (neither (is_control entry.item) (length begun + 1 == MOST_BATCH_ITEMS) ends).1 in
+    let other = eqb-false (length begun + 1) MOST_BATCH_ITEMS
+    (neither (is_control entry.item) (length begun + 1 == MOST_BATCH_ITEMS) ends).1 in
     let long : length more ≡ length begun + 1 = ap length pushed ∙ length-append begun (entry ∷ []) in
     omega (arith, long, other)
 

@@ -1,32 +1,38 @@
 -- What the cut of a script keeps.
-use Rattle.std.proofs.Common.{zero, suc, lit<, ◌≡◌, ◌≢◌, ℕ, ◌<◌, ◌+◌, ◌==◌, ◌||◌, Bool, true, false, List, [], ◌∷◌, ◌++◌, length, refl, sym, ap, ◌∙◌, cond, subst, arith, take, drop, length-append}
+use Rattle.std.proofs.Common.{zero, suc, lit<, ◌≡◌, ◌≢◌, ℕ, ◌<◌, ◌+◌, ◌==◌, ◌||◌, Bool, true, false, List, [], ◌∷◌}
+use Rattle.std.proofs.Common.{◌++◌, length, refl, sym, ap, ◌∙◌, cond, subst, take, drop, length-append}
 use Rattle.rif_terms.specs.declared.limits.TheConstants.{MOST_BATCH_ITEMS}
 use Rattle.session_states.specs.declared.item.Item.{Item}
 use Rattle.session_states.specs.declared.item.Entry.{Entry}
 use Rattle.session_states.specs.Batches.{IsLawful}
 use Rattle.rif_script.specs.Cutting.{batches_behind, ends_behind, is_control, is_dispose, served_count, with_first}
 use Rattle.rif_script.specs.CuttingLaws.{AreEnded, AreLawful, ControlsLast, CutEndsBatches, CutIsLawful, CutKeepsAll, joined, last_passes}
-use Rattle.rif_script.proofs.CuttingLemmas.{AreChanges, AreChanges-snoc, batches_after, closes, goes_on, joined_first-alone, lawful_begun, lawful_closed, neither, room_joined}
+use Rattle.rif_script.proofs.CuttingLemmas.{AreChanges, AreChanges-snoc, batches_after, batches_where, closes, goes_on}
+use Rattle.rif_script.proofs.CuttingLemmas.{joined_first-alone, lawful_begun, lawful_closed, neither, room_joined}
 
 take-drop : (n : ℕ) (entries : List Entry) → take n entries ++ drop n entries ≡ entries
 take-drop zero entries = refl
 take-drop (suc n) [] = refl
 take-drop (suc n) (entry ∷ entries) = ap (λ (es : List Entry). entry ∷ es) (take-drop n entries)
 
-joined-with_first : (entry : Entry) (batches : List (List Entry)) (more : List Entry) → joined (with_first entry batches) more ≡ entry ∷ joined batches more
+joined-with_first : (entry : Entry) (batches : List (List Entry)) (more : List Entry) →
+    joined (with_first entry batches) more ≡ entry ∷ joined batches more
 joined-with_first entry [] more = refl
 joined-with_first entry (batch ∷ batches) more = refl
 
 joined-batches_behind : (before : ℕ) (entries more : List Entry) → joined (batches_behind before entries) more ≡ entries ++ more
 joined-batches_behind before [] more = refl
 joined-batches_behind before (entry ∷ entries) more =
-    elim (ends_behind before entry.item) as (λ b. joined (cond b ((entry ∷ []) ∷ batches_behind 0 entries) (with_first entry (batches_behind (before + 1) entries))) more ≡ entry ∷ (entries ++ more)) [
+    elim (ends_behind before entry.item) as
+    (λ b. joined (batches_where b before entry entries) more ≡ entry ∷ (entries ++ more)) [
       | true ↦ ap (λ (es : List Entry). entry ∷ es) (joined-batches_behind 0 entries more)
-      | false ↦ joined-with_first entry (batches_behind (before + 1) entries) more ∙ ap (λ (es : List Entry). entry ∷ es) (joined-batches_behind (before + 1) entries more)
+      | false ↦ joined-with_first entry (batches_behind (before + 1) entries) more
+          ∙ ap (λ (es : List Entry). entry ∷ es) (joined-batches_behind (before + 1) entries more)
     ]
 
 pub cut_keeps_all : CutKeepsAll
-cut_keeps_all entries = joined-batches_behind 0 (take (served_count entries) entries) (drop (served_count entries) entries) ∙ take-drop (served_count entries) entries
+cut_keeps_all entries = joined-batches_behind 0 (take (served_count entries) entries)
+    (drop (served_count entries) entries) ∙ take-drop (served_count entries) entries
 
 -- no entry but the last is a Dispose
 abbrev DisposesLast : List Entry → Type 0
@@ -34,11 +40,13 @@ DisposesLast [] = Unit {0}
 DisposesLast (entry ∷ []) = Unit {0}
 DisposesLast (entry ∷ next ∷ entries) = (is_dispose entry.item ≡ false) × DisposesLast (next ∷ entries)
 
-disposes_last : (entry : Entry) (entries : List Entry) → is_dispose entry.item ≡ false → DisposesLast entries → DisposesLast (entry ∷ entries)
+disposes_last : (entry : Entry) (entries : List Entry) → is_dispose entry.item ≡ false → DisposesLast entries →
+    DisposesLast (entry ∷ entries)
 disposes_last entry [] other rest = tt
 disposes_last entry (next ∷ entries) other rest = (other, rest)
 
-served_by : (entry : Entry) (entries : List Entry) (ends : Bool) → is_dispose entry.item ≡ ends → DisposesLast (take (served_count entries) entries) →
+served_by : (entry : Entry) (entries : List Entry) (ends : Bool) → is_dispose entry.item ≡ ends →
+    DisposesLast (take (served_count entries) entries) →
     DisposesLast (take (cond ends 1 (suc (served_count entries))) (entry ∷ entries))
 served_by entry entries true is rest = tt
 served_by entry entries false is rest = disposes_last entry (take (served_count entries) entries) is rest
@@ -47,7 +55,8 @@ served_disposes_last : (entries : List Entry) → DisposesLast (take (served_cou
 served_disposes_last [] = tt
 served_disposes_last (entry ∷ entries) = served_by entry entries (is_dispose entry.item) refl (served_disposes_last entries)
 
-last_passes-snoc : (test : Item → Bool) (begun : List Entry) (entry : Entry) → last_passes test (begun ++ entry ∷ []) ≡ test entry.item
+last_passes-snoc : (test : Item → Bool) (begun : List Entry) (entry : Entry) →
+    last_passes test (begun ++ entry ∷ []) ≡ test entry.item
 last_passes-snoc test [] entry = refl
 last_passes-snoc test (e ∷ []) entry = refl
 last_passes-snoc test (e ∷ next ∷ begun) entry = last_passes-snoc test (next ∷ begun) entry
@@ -59,19 +68,22 @@ not_empty (e ∷ begun) entry same = cc
 some_entry : (entry : Entry) (begun : List Entry) → entry ∷ begun ≢ []
 some_entry entry begun same = cc
 
-lawful_before : (batch : List Entry) (batches : List (List Entry)) → IsLawful batch → batch ≢ [] → last_passes is_dispose batch ≡ false → AreLawful batches → AreLawful (batch ∷ batches)
+lawful_before : (batch : List Entry) (batches : List (List Entry)) → IsLawful batch → batch ≢ [] →
+    last_passes is_dispose batch ≡ false → AreLawful batches → AreLawful (batch ∷ batches)
 lawful_before batch [] lawful some other rest = (lawful, some)
 lawful_before batch (next ∷ batches) lawful some other rest = (lawful, some, other, rest)
 
 lawful_last : (begun : List Entry) → length begun < MOST_BATCH_ITEMS → AreChanges begun → AreLawful (batches_after [] begun [])
 lawful_last [] room changes = tt
-lawful_last (e ∷ begun) room changes = subst AreLawful (sym (joined_first-alone e begun)) (lawful_begun (e ∷ begun) room changes, some_entry e begun)
+lawful_last (e ∷ begun) room changes = subst AreLawful (sym (joined_first-alone e begun))
+    (lawful_begun (e ∷ begun) room changes, some_entry e begun)
 
 -- the batches of what is begun and what is to come are lawful
 abbrev Lawful : List Entry → List Entry → Type 0
 Lawful begun entries = length begun < MOST_BATCH_ITEMS → AreChanges begun → AreLawful (batches_after [] begun entries)
 
-lawful_step : (begun : List Entry) (entry : Entry) (entries : List Entry) (ends : Bool) → ends_behind (length begun) entry.item ≡ ends → DisposesLast (entry ∷ entries) →
+lawful_step : (begun : List Entry) (entry : Entry) (entries : List Entry) (ends : Bool) →
+    ends_behind (length begun) entry.item ≡ ends → DisposesLast (entry ∷ entries) →
     Lawful [] entries → Lawful (begun ++ entry ∷ []) entries → Lawful begun (entry ∷ entries)
 lawful_step begun entry [] true is last anew on room changes =
     subst AreLawful (closes [] begun entry [] is) (lawful_closed begun (begun ++ entry ∷ []) entry room changes refl, not_empty begun entry)
@@ -82,7 +94,8 @@ lawful_step begun entry (next ∷ entries) true is last anew on room changes =
     (anew (lit< tt) tt))
 lawful_step begun entry entries false is last anew on room changes =
     let change = neither (is_control entry.item) (length begun + 1 == MOST_BATCH_ITEMS) is in
-    subst AreLawful (goes_on [] begun entry entries is) (on (room_joined begun (begun ++ entry ∷ []) entry room is refl) (AreChanges-snoc begun entry changes change.0))
+    subst AreLawful (goes_on [] begun entry entries is)
+    (on (room_joined begun (begun ++ entry ∷ []) entry room is refl) (AreChanges-snoc begun entry changes change.0))
 
 rest_disposes_last : (entry : Entry) (entries : List Entry) → DisposesLast (entry ∷ entries) → DisposesLast entries
 rest_disposes_last entry [] last = tt
@@ -92,7 +105,8 @@ lawful_from : (begun entries : List Entry) → DisposesLast entries → Lawful b
 lawful_from begun [] last room changes = lawful_last begun room changes
 lawful_from begun (entry ∷ entries) last room changes =
     let rest = rest_disposes_last entry entries last in
-    lawful_step begun entry entries (ends_behind (length begun) entry.item) refl last (lawful_from [] entries rest) (lawful_from (begun ++ entry ∷ []) entries rest) room changes
+    lawful_step begun entry entries (ends_behind (length begun) entry.item) refl last (lawful_from [] entries rest)
+    (lawful_from (begun ++ entry ∷ []) entries rest) room changes
 
 pub cut_is_lawful : CutIsLawful
 cut_is_lawful entries = lawful_from [] (take (served_count entries) entries) (served_disposes_last entries) (lit< tt) tt
@@ -107,7 +121,8 @@ no_controls [] changes = tt
 no_controls (e ∷ []) changes = tt
 no_controls (e ∷ next ∷ begun) changes = (changes.0, no_controls (next ∷ begun) changes.1)
 
-ended_before : (batch : List Entry) (batches : List (List Entry)) → ControlsLast batch → (last_passes is_control batch || length batch == MOST_BATCH_ITEMS) ≡ true →
+ended_before : (batch : List Entry) (batches : List (List Entry)) → ControlsLast batch →
+    (last_passes is_control batch || length batch == MOST_BATCH_ITEMS) ≡ true →
     AreEnded batches → AreEnded (batch ∷ batches)
 ended_before batch [] controls ended rest = controls
 ended_before batch (next ∷ batches) controls ended rest = (controls, ended, rest)
@@ -116,15 +131,18 @@ ended_last : (begun : List Entry) → AreChanges begun → AreEnded (batches_aft
 ended_last [] changes = tt
 ended_last (e ∷ begun) changes = subst AreEnded (sym (joined_first-alone e begun)) (no_controls (e ∷ begun) changes)
 
-ended_step : (begun : List Entry) (entry : Entry) (entries : List Entry) (ends : Bool) → ends_behind (length begun) entry.item ≡ ends → AreChanges begun →
-    AreEnded (batches_after [] [] entries) → (AreChanges (begun ++ entry ∷ []) → AreEnded (batches_after [] (begun ++ entry ∷ []) entries)) →
+ended_step : (begun : List Entry) (entry : Entry) (entries : List Entry) (ends : Bool) →
+    ends_behind (length begun) entry.item ≡ ends → AreChanges begun →
+    AreEnded (batches_after [] [] entries) →
+    (AreChanges (begun ++ entry ∷ []) → AreEnded (batches_after [] (begun ++ entry ∷ []) entries)) →
     AreEnded (batches_after [] begun (entry ∷ entries))
 ended_step begun entry entries true is changes anew on =
     let last : (last_passes is_control (begun ++ entry ∷ []) || length (begun ++ entry ∷ []) == MOST_BATCH_ITEMS) ≡ true =
     ap (λ (b : Bool). b || length (begun ++ entry ∷ []) == MOST_BATCH_ITEMS) (last_passes-snoc is_control begun entry)
     ∙ ap (λ (n : ℕ). is_control entry.item || n == MOST_BATCH_ITEMS) (length-append begun (entry ∷ []))
     ∙ is in
-    subst AreEnded (closes [] begun entry entries is) (ended_before (begun ++ entry ∷ []) (batches_behind 0 entries) (controls_last begun entry changes) last anew)
+    subst AreEnded (closes [] begun entry entries is)
+    (ended_before (begun ++ entry ∷ []) (batches_behind 0 entries) (controls_last begun entry changes) last anew)
 ended_step begun entry entries false is changes anew on =
     let change = neither (is_control entry.item) (length begun + 1 == MOST_BATCH_ITEMS) is in
     subst AreEnded (goes_on [] begun entry entries is) (on (AreChanges-snoc begun entry changes change.0))
@@ -132,7 +150,8 @@ ended_step begun entry entries false is changes anew on =
 ended_from : (begun entries : List Entry) → AreChanges begun → AreEnded (batches_after [] begun entries)
 ended_from begun [] changes = ended_last begun changes
 ended_from begun (entry ∷ entries) changes =
-    ended_step begun entry entries (ends_behind (length begun) entry.item) refl changes (ended_from [] entries tt) (ended_from (begun ++ entry ∷ []) entries)
+    ended_step begun entry entries (ends_behind (length begun) entry.item) refl changes (ended_from [] entries tt)
+    (ended_from (begun ++ entry ∷ []) entries)
 
 pub cut_ends_batches : CutEndsBatches
 cut_ends_batches entries = ended_from [] (take (served_count entries) entries) tt

@@ -1,5 +1,7 @@
 -- One more item: its entry, and the counts of the clients' items.
-use Rattle.std.proofs.Common.{zero, suc, All, ◌≡◌, ◌≢◌, ◌≤◌, ℕ, ◌<◌, ◌+◌, ◌==◌, Bool, true, false, List, [], ◌∷◌, ◌++◌, length, refl, sym, ap, ◌∙◌, subst, arith, take, drop, get_or, set, drop-cons, add-one, get_or-set_other, get_or-set_same, append_assoc, length-set}
+use Rattle.std.proofs.Common.{suc, All, ◌≡◌, ◌≢◌, ◌≤◌, ℕ, ◌<◌, ◌+◌, ◌==◌, Bool, true, false, List, [], ◌∷◌, ◌++◌}
+use Rattle.std.proofs.Common.{length, refl, sym, ap, ◌∙◌, subst, arith, take, drop, get_or, set, drop-cons, add-one}
+use Rattle.std.proofs.Common.{get_or-set_other, get_or-set_same, append_assoc, length-set}
 use Rattle.std.proofs.Math.Seq.{take-suc}
 use Rattle.std.proofs.lemmas.Bool.{eqb-true, eqb-false}
 use Rattle.std.proofs.lemmas.List.{length-take-le}
@@ -18,9 +20,13 @@ entry_behind before sent = entry_with sent.0 (sent_count sent.0 before) sent.1
 pub entries_after-drop : (items : List (ℕ × Item)) (i : ℕ) (sent : ℕ × Item) → i < length items → sent ≡ get_or items i sent →
     entries_after (take i items) (drop i items) ≡ entry_behind (take i items) sent ∷ entries_after (take (i + 1) items) (drop (i + 1) items)
 entries_after-drop items i sent lt is =
-    let rest : drop i items ≡ sent ∷ drop (i + 1) items = rw (add-one, drop-cons items i sent) (ap (λ (x : ℕ × Item). x ∷ drop (suc i) items) (sym is)) in
-    let past : take (i + 1) items ≡ take i items ++ sent ∷ [] = rw (add-one, take-suc items i sent) (ap (λ (x : ℕ × Item). take i items ++ x ∷ []) (sym is)) in
-    ap (entries_after (take i items)) rest ∙ ap (λ (before : List (ℕ × Item)). entry_behind (take i items) sent ∷ entries_after before (drop (i + 1) items)) (sym past)
+    let rest : drop i items ≡ sent ∷ drop (i + 1) items =
+    rw (add-one, drop-cons items i sent) (ap (λ (x : ℕ × Item). x ∷ drop (suc i) items) (sym is)) in
+    let past : take (i + 1) items ≡ take i items ++ sent ∷ [] =
+    rw (add-one, take-suc items i sent) (ap (λ (x : ℕ × Item). take i items ++ x ∷ []) (sym is)) in
+    ap (entries_after (take i items)) rest
+    ∙ ap (λ (before : List (ℕ × Item)). entry_behind (take i items) sent ∷ entries_after before (drop (i + 1) items))
+    (sym past)
 
 same_entry : (c k r q : ℕ) (i j : Item) → c ≡ k → r ≡ q → i ≡ j → entry_with c r i ≡ entry_with k q j
 same_entry c k r q i j same_client same_rank same_item = cc
@@ -31,14 +37,16 @@ pub made_more : (all entries more : List Entry) (items : List (ℕ × Item)) (i 
     more ++ entries_after (take (i + 1) items) (drop (i + 1) items) ≡ all
 made_more all entries more items i sent rank item lt is ranks copied pushed so_far =
     let rest = entries_after (take (i + 1) items) (drop (i + 1) items) in
-    let entry : entry_with sent.0 rank item ≡ entry_behind (take i items) sent = same_entry sent.0 sent.0 rank (sent_count sent.0 (take i items)) item sent.1 refl ranks copied in
+    let entry : entry_with sent.0 rank item ≡ entry_behind (take i items) sent =
+    same_entry sent.0 sent.0 rank (sent_count sent.0 (take i items)) item sent.1 refl ranks copied in
     ap (λ (es : List Entry). es ++ rest) pushed
     ∙ append_assoc entries (entry_with sent.0 rank item ∷ []) rest
     ∙ ap (λ (e : Entry). entries ++ e ∷ rest) entry
     ∙ ap (λ (es : List Entry). entries ++ es) (sym (entries_after-drop items i sent lt is))
     ∙ so_far
 
-count_at : (items : List (ℕ × Item)) (i : ℕ) (sent : ℕ × Item) (counts : List ℕ) (c : ℕ) (is_own : Bool) → (sent.0 == c) ≡ is_own →
+count_at : (items : List (ℕ × Item)) (i : ℕ) (sent : ℕ × Item) (counts : List ℕ) (c : ℕ) (is_own : Bool) →
+    (sent.0 == c) ≡ is_own →
     i < length items → sent ≡ get_or items i sent → c < length counts → get_or counts c 0 ≡ sent_count c (take i items) →
     get_or (set counts sent.0 (get_or counts sent.0 0 + 1)) c 0 ≡ sent_count c (take (i + 1) items)
 count_at items i sent counts c true own lt is in' counted =
@@ -56,19 +64,22 @@ count_at items i sent counts c false other lt is in' counted =
     ∙ sym (count_by_more_no (λ (x : ℕ × Item). x.0 == c) items i sent lt test)
 
 -- one more item raises the count of its client
-pub counted_more : (items : List (ℕ × Item)) (i : ℕ) (sent : ℕ × Item) (counts : List ℕ) (n : ℕ) → i < length items → sent ≡ get_or items i sent →
+pub counted_more : (items : List (ℕ × Item)) (i : ℕ) (sent : ℕ × Item) (counts : List ℕ) (n : ℕ) → i < length items →
+    sent ≡ get_or items i sent →
     n ≡ get_or counts sent.0 0 → ((c : ℕ) → c < length counts → get_or counts c 0 ≡ sent_count c (take i items)) →
     (c : ℕ) → c < length (set counts sent.0 (n + 1)) → get_or (set counts sent.0 (n + 1)) c 0 ≡ sent_count c (take (i + 1) items)
 counted_more items i sent counts n lt is read counted c in' =
     let within : c < length counts = subst (λ (k : ℕ). c < k) (length-set counts sent.0 (n + 1)) in' in
-    ap (λ (m : ℕ). get_or (set counts sent.0 (m + 1)) c 0) read ∙ count_at items i sent counts c (sent.0 == c) refl lt is within (counted c within)
+    ap (λ (m : ℕ). get_or (set counts sent.0 (m + 1)) c 0) read
+    ∙ count_at items i sent counts c (sent.0 == c) refl lt is within (counted c within)
 
 -- a client sent no more than all
 pub few_sent : (items : List (ℕ × Item)) (i c n : ℕ) → i ≤ length items → n ≡ sent_count c (take i items) → n ≤ i
 few_sent items i c n in' counted = omega (arith, count_by-le-length (λ (x : ℕ × Item). x.0 == c) (take i items), length-take-le i items in')
 
 -- an item of the list is of a known client
-pub client_known : (items all : List (ℕ × Item)) (i : ℕ) (sent : ℕ × Item) (n m : ℕ) → All (λ (x : ℕ × Item). x.0 < n) all → items ≡ all →
+pub client_known : (items all : List (ℕ × Item)) (i : ℕ) (sent : ℕ × Item) (n m : ℕ) →
+    All (λ (x : ℕ × Item). x.0 < n) all → items ≡ all →
     i < length items → sent ≡ get_or items i sent → m ≡ n → sent.0 < m
 client_known items all i sent n m known same lt is count =
     let lt_all : i < length all = subst (λ (l : List (ℕ × Item)). i < length l) same lt in

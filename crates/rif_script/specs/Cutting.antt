@@ -63,7 +63,8 @@ with_first entry (batch ∷ batches) = (entry ∷ batch) ∷ batches
 abbrev pub batches_behind : ℕ → List Entry → List (List Entry)
 batches_behind before [] = []
 batches_behind before (entry ∷ entries) =
-    if ends_behind before entry.item then (entry ∷ []) ∷ batches_behind 0 entries else with_first entry (batches_behind (before + 1) entries)
+    if ends_behind before entry.item then (entry ∷ []) ∷ batches_behind 0 entries else with_first entry
+    (batches_behind (before + 1) entries)
 
 abbrev pub batches_of_entries : List Entry → List (List Entry)
 batches_of_entries entries = batches_behind 0 (take (served_count entries) entries)

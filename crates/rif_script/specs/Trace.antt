@@ -3,7 +3,8 @@
 --     turns_text job k turns           turns with the numbers from one on
 --     run_text job turns left facts    the text of a run
 -- Source: the project's own (docs/FORMATS.md, "The trace").
-use Rattle.std.specs.Prelude.{suc, ◌≤◌, ◌<◌, ℕ, ◌-◌, Bool, true, false, List, [], ◌∷◌, ◌++◌, All, Some, None, IsSome, IfSome, codes, count_by, decimal, length, slice_get}
+use Rattle.std.specs.Prelude.{suc, ◌≤◌, ◌<◌, ℕ, ◌-◌, Bool, true, false, List, [], ◌∷◌, ◌++◌, All, Some, None, IsSome}
+use Rattle.std.specs.Prelude.{IfSome, codes, count_by, decimal, length, slice_get}
 use Rattle.std.specs.List.{flat_map}
 use Rattle.std.specs.declared.option.Option.{Option}
 use Rattle.rif_terms.specs.declared.constant.Const.{Const}
@@ -89,7 +90,8 @@ firing_count = count_by (λ turn. is_fired turn.act)
 
 abbrev pub end_line : List Turn → ℕ → List ℕ
 end_line turns facts =
-    codes "end turns " ++ decimal (length turns) ++ codes " firings " ++ decimal (firing_count turns) ++ codes " facts " ++ decimal facts ++ codes "\n"
+    codes "end turns " ++ decimal (length turns) ++ codes " firings " ++ decimal
+    (firing_count turns) ++ codes " facts " ++ decimal facts ++ codes "\n"
 
 abbrev pub run_text : Job → List Turn → List Entry → ℕ → List ℕ
 run_text job turns left facts = turns_text job 1 turns ++ flat_map (entry_line (codes "left") job.names) left ++ end_line turns facts
