@@ -1,4 +1,4 @@
-use Rattle.std.proofs.Common.{◌≡◌, ◌+◌, ◌-◌, ◌≤◌, length, take, drop, ◌∙◌, arith, length-drop}
+use Rattle.std.proofs.Common.{◌-◌, length, drop, ◌∙◌, arith, length-drop}
 use Rattle.std.proofs.lemmas.List.{length-take}
 use Rattle.rif_run.proofs.WritingLemmas.{appends_both, front_grows}
 use Rattle.rif_run.proofs.writing.write_text.Goals as goal
