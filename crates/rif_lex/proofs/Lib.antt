@@ -9,3 +9,6 @@ pub mod AloneLemmas
 pub mod SpellingLemmas
 pub mod CuttingLemmas
 pub mod SpanLemmas
+pub mod FormLemmas
+pub mod SplitLemmas
+pub mod LongestLemmas
