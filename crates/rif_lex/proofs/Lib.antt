@@ -12,3 +12,4 @@ pub mod SpanLemmas
 pub mod FormLemmas
 pub mod SplitLemmas
 pub mod LongestLemmas
+pub mod BlankLemmas

@@ -151,6 +151,10 @@ has_class b =
 byte_of : (c : Class) (b : ℕ) → class_at b ≡ c → ByteOf c b
 byte_of c b is = subst (λ x. ByteOf x b) is (has_class b).byte
 
+pub open_byte : (b : ℕ) → class_at b ≡ Open → b ≡ 40
+unfolding ByteOf
+open_byte b is = byte_of Open b is
+
 digits_front : (bs : List ℕ) → AllByRecursion (λ d. is_digit (class_at d) ≡ true) (take (digits_length bs) bs)
 digits_front [] = tt
 digits_front (b ∷ bs) = elim (is_digit (class_at b)) as (λ v. is_digit (class_at b) ≡ v → AllByRecursion (λ d. is_digit (class_at d) ≡ true) (take (cond v (suc (digits_length bs)) 0) (b ∷ bs))) [

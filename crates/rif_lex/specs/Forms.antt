@@ -1,13 +1,13 @@
 -- The forms of tokens, as the table of tokens has them, each by what a text is put together from; and which of them stands
 -- at the front of a text: the longest.
 -- Source: the project's own (docs/FORMATS.md, "Tokens").
-use Rattle.std.specs.Prelude.{◌≡◌, ◌⊎◌, ◌↔◌, ℕ, ◌≤◌, ◌<◌, ◌==◌, ◌||◌, not, Bool, true, false, List, [], ◌∷◌, ◌++◌, length, take, drop, codes}
+use Rattle.std.specs.Prelude.{◌≡◌, ◌⊎◌, ◌↔◌, ℕ, ◌+◌, ◌≤◌, ◌<◌, ◌==◌, ◌||◌, not, Bool, true, false, List, [], ◌∷◌, ◌++◌, length, take, drop, codes}
 use Rattle.std.specs.List.{flat_map, AllByRecursion}
-use Rattle.rif_lex.specs.declared.class.Class.TheVariants.{Letter}
+use Rattle.rif_lex.specs.declared.class.Class.TheVariants.{White, Letter}
 use Rattle.rif_lex.specs.declared.token.Kind.{Kind}
 use Rattle.rif_lex.specs.declared.token.Kind.TheVariants.{Word, Curie, Local, Var, Int, Str, Iri, Open, Close, OpenSquare, CloseSquare, Equal, Hash, HashHash, Arrow, Carets}
-use Rattle.rif_lex.specs.declared.piece.Piece.TheVariants.{Lexeme}
-use Rattle.rif_lex.specs.Characters.{class_at, begins, begins_name, is_name, is_digit, is_first_digit, is_escape, is_inside_iri}
+use Rattle.rif_lex.specs.declared.piece.Piece.TheVariants.{Blank, Lexeme}
+use Rattle.rif_lex.specs.Characters.{class_at, begins, begins_two, begins_name, is_name, is_digit, is_first_digit, is_escape, is_inside_iri}
 use Rattle.rif_lex.specs.Pieces.{piece_at}
 
 -- all bytes are of name characters, where the rest follows
@@ -105,3 +105,28 @@ pub record IsLongest (text : List ℕ) (kind : Kind) (n : ℕ) : Type 0 where
 -- Law: the token at the front of a text is the longest that has a form there, and there is one exactly where it may end.
 abbrev pub TokensAreLongest : Type 0
 TokensAreLongest = (text : List ℕ) (kind : Kind) (n : ℕ) → (piece_at text ≡ Lexeme kind n) ↔ IsLongest text kind n
+
+-- the text has a `*)` in it
+abbrev pub has_close : List ℕ → Bool
+has_close [] = false
+has_close (b ∷ bs) = begins_two 42 41 (b ∷ bs) || has_close bs
+
+-- at the front of the text stands a character of white space
+pub record IsWhiteSpace (text : List ℕ) (n : ℕ) : Type 0 where
+  pub first : ℕ
+  pub rest : List ℕ
+  pub is : text ≡ first ∷ rest
+  pub white : class_at first ≡ White
+  pub one : n ≡ 1
+
+-- at the front of the text stands an annotation: `(*`, and all up to the next `*)`
+pub record IsAnnotation (text : List ℕ) (n : ℕ) : Type 0 where
+  pub inside : List ℕ
+  pub rest : List ℕ
+  pub is : text ≡ 40 ∷ 42 ∷ (inside ++ 42 ∷ 41 ∷ rest)
+  pub next : has_close (inside ++ 42 ∷ []) ≡ false
+  pub long : n ≡ length inside + 4
+
+-- Law: what is passed over at the front of a text is a character of white space, or an annotation.
+abbrev pub BlanksAreWhite : Type 0
+BlanksAreWhite = (text : List ℕ) (n : ℕ) → (piece_at text ≡ Blank n) ↔ (IsWhiteSpace text n ⊎ IsAnnotation text n)
