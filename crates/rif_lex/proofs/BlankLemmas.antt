@@ -11,8 +11,7 @@ use Rattle.rif_lex.specs.declared.piece.Piece.TheVariants.{Unreadable, Blank, Le
 use Rattle.rif_lex.specs.Characters.{class_at, begins, begins_two, begins_name, begins_number}
 use Rattle.rif_lex.specs.Pieces.{name_length, digits_length, longer, string_length, iri_length, annotation_length, token_to, blank_to, named, word_to, integer_to, piece_of, piece_at}
 use Rattle.rif_lex.specs.Forms.{has_close, IsWhiteSpace, IsAnnotation, BlanksAreWhite}
-use Rattle.rif_lex.proofs.TestLemmas.{by_test}
-use Rattle.rif_lex.proofs.LineLemmas.{longer_one}
+use Rattle.rif_lex.proofs.TestLemmas.{by_test, both, neither, longer_one}
 use Rattle.rif_lex.proofs.SplitLemmas.{open_byte}
 
 -- what an annotation has inside, and what stands behind it
@@ -22,14 +21,6 @@ record IsClosed (bs : List ℕ) (n : ℕ) : Type 0 where
   is : bs ≡ inside ++ 42 ∷ 41 ∷ rest
   next : has_close (inside ++ 42 ∷ []) ≡ false
   long : n ≡ length inside + 2
-
-both : (s t : Bool) → s && t ≡ true → (s ≡ true) × (t ≡ true)
-both true t e = (refl, e)
-both false t e = cc
-
-neither : (s t : Bool) → s || t ≡ false → (s ≡ false) × (t ≡ false)
-neither true t e = cc
-neither false t e = (refl, e)
 
 closes : (b : ℕ) (bs : List ℕ) → begins_two 42 41 (b ∷ bs) ≡ true → b ∷ bs ≡ 42 ∷ 41 ∷ drop 1 bs
 closes b [] close = let two = both (b == 42) false close in let never = two.1 in cc

@@ -11,6 +11,7 @@ use Rattle.rif_lex.specs.declared.piece.Piece.TheVariants.{Unreadable, Blank, Le
 use Rattle.rif_lex.specs.Characters.{class_at, begins, begins_two, begins_name, begins_number, is_name, is_digit, is_escape, is_inside_iri}
 use Rattle.rif_lex.specs.Pieces.{name_length, digits_length, longer, string_length, escaped_length, iri_length, annotation_length, token_to, blank_to, named, word_to, integer_to, piece_of, piece_at}
 use Rattle.rif_lex.specs.Scanning.{FitsIn}
+use Rattle.rif_lex.proofs.TestLemmas.{both}
 
 pub name_length_le : (bs : List ℕ) → name_length bs ≤ length bs
 name_length_le [] = omega arith
@@ -67,10 +68,6 @@ begins_some c (b ∷ bs) is = omega arith
 -- a byte there, and a further length
 pub drop_some : (c at : ℕ) (bs : List ℕ) → begins c (drop at bs) ≡ true → at + 1 ≤ length bs
 drop_some c at bs is = omega (arith, begins_some c (drop at bs) is, length-drop at bs)
-
-both : (s t : Bool) → s && t ≡ true → (s ≡ true) × (t ≡ true)
-both true t e = (refl, e)
-both false t e = cc
 
 annotation_within : (bs : List ℕ) → EndsWithin (annotation_length bs) (length bs)
 annotation_within [] = tt

@@ -14,7 +14,7 @@ use Rattle.rif_lex.specs.Spelling.{Written, written, IsToken, SlicesAreTokens}
 use Rattle.rif_lex.specs.Scanning.{FitsIn}
 use Rattle.rif_lex.proofs.FitLemmas.{piece_fits}
 use Rattle.rif_lex.proofs.LineLemmas.{lexeme_in_line}
-use Rattle.rif_lex.proofs.AloneLemmas.{piece_alone}
+use Rattle.rif_lex.proofs.FollowLemmas.{piece_alone}
 use Rattle.rif_lex.proofs.CuttingLemmas.{tokens_are_cut}
 
 -- spans that rise from one byte on rise from each before it
@@ -68,7 +68,7 @@ slice_is text k from n line col is some =
     let fits : (1 ≤ n) × (n ≤ length (drop from text)) = subst (λ p. FitsIn p (length (drop from text))) is (piece_fits (drop from text)) in
     let long : (from + n) - from ≡ n = omega arith in
     let all : length (take n (drop from text)) ≡ n = length-take-le n (drop from text) fits.1 in
-    rw (long, all) (piece_alone k n (drop from text) some is, lexeme_in_line (drop from text) k n is)
+    rw (long, all) (piece_alone k n (drop from text) is, lexeme_in_line (drop from text) k n is)
 
 among_slices : (ps : List Piece) (text : List ℕ) (from to : ℕ) → AreCut text from ps to → AllByRecursion (IsSlice text) (tokens_among text from ps)
 among_slices [] text from to cut = tt

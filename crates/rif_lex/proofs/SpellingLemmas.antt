@@ -10,7 +10,7 @@ use Rattle.rif_lex.specs.Places.{place_past, first_place}
 use Rattle.rif_lex.specs.Lexing.{token_at, with_front, tokens_from, tokens_of}
 use Rattle.rif_lex.specs.Spelling.{Written, written, IsToken, Gap, joined, space, line_feed, gap_text, Spelled, spelled_text, ends_before, AreSeparate, SpelledIsLexed}
 use Rattle.rif_lex.proofs.FitLemmas.{piece_fits}
-use Rattle.rif_lex.proofs.FrontLemmas.{piece_at-append}
+use Rattle.rif_lex.proofs.FollowLemmas.{piece_at-append}
 use Rattle.rif_lex.proofs.PlaceLemmas.{place_past-offset}
 use Rattle.rif_lex.proofs.LexingLemmas.{lexeme_step}
 
@@ -30,7 +30,7 @@ spelled_step : (k : Kind) (text : List ℕ) (g : Gap) (p : Place) (rest : List �
     ≡ with_front (token_at k p (length text) ∷ []) (tokens_from 0 (place_past (place_past p text) (gap_text g)) rest)
 spelled_step k text g p rest is ends =
     let behind = gap_text g ++ rest in
-    let step = lexeme_step k (length text) p (text ++ behind) (piece_at-append k (length text) text behind is ends) (some_bytes k text is) in
+    let step = lexeme_step k (length text) p (text ++ behind) (piece_at-append k text behind is ends) (some_bytes k text is) in
     let taken = take_at text behind (length text) refl in
     let left = drop_at text behind (length text) refl in
     let gap = gap_step g (place_past p text) rest in

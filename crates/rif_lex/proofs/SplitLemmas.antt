@@ -14,9 +14,8 @@ use Rattle.rif_lex.specs.declared.piece.Piece.TheVariants.{Unreadable, Blank, Le
 use Rattle.rif_lex.specs.Characters.{class_at, begins, begins_name, begins_number, is_name, is_digit, is_first_digit, is_escape, is_inside_iri}
 use Rattle.rif_lex.specs.Pieces.{name_length, digits_length, longer, string_length, escaped_length, iri_length, annotation_length, token_to, blank_to, named, word_to, integer_to, piece_of, piece_at}
 use Rattle.rif_lex.specs.Forms.{AreNames, IsWord, IsCurie, IsNamed, IsNumber, Part, plain, escape, part_text, is_part, IsString, IsIri, HasForm, MayEnd, IsLongest, TokensAreLongest}
-use Rattle.rif_lex.proofs.TestLemmas.{by_test, differs}
+use Rattle.rif_lex.proofs.TestLemmas.{by_test, neither, longer_one, no_lexeme}
 use Rattle.rif_lex.proofs.FitLemmas.{name_length_le, digits_length_le, piece_fits}
-use Rattle.rif_lex.proofs.LineLemmas.{longer_one, no_lexeme}
 use Rattle.rif_lex.proofs.FormLemmas.{CannotGoOn, names_front, names_end, is_first}
 
 -- a text begins with a token of n bytes that has a form, and that what follows can't go on
@@ -161,10 +160,6 @@ digits_front (b ∷ bs) = elim (is_digit (class_at b)) as (λ v. is_digit (class
   | true ↦ λ is. (is, digits_front bs)
   | false ↦ λ _. tt
 ] refl
-
-neither : (s t : Bool) → s || t ≡ false → (s ≡ false) × (t ≡ false)
-neither true t e = cc
-neither false t e = (refl, e)
 
 -- digits behind a first byte, and nothing that may not follow an integer
 digits_split : (k : Kind) (n b : ℕ) (bs : List ℕ) → (AllByRecursion (λ d. is_digit (class_at d) ≡ true) (take (digits_length bs) bs) → HasForm Int (b ∷ take (digits_length bs) bs) (drop (digits_length bs) bs)) →
