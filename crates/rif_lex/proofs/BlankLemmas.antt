@@ -1,15 +1,14 @@
 -- What is passed over at the front of a text is white space or an annotation.
-use Rattle.std.proofs.Common.{◌≡◌, ◌⊎◌, ◌↔◌, ℕ, ◌+◌, ◌≤◌, List, [], ◌∷◌, ◌++◌, length, drop, suc, refl, ap, ◌∙◌, sym, subst, arith, true, false, cond, Bool, ◌==◌, ◌||◌, ◌&&◌, Some, None, inl, inr, append_assoc}
+use Rattle.std.proofs.Common.{◌≡◌, ◌⊎◌, ℕ, ◌+◌, List, [], ◌∷◌, ◌++◌, length, drop, suc, refl, ap, ◌∙◌, sym, arith, true, false, ◌==◌, ◌||◌, ◌&&◌, Some, None, inl, inr}
 use Rattle.std.proofs.lemmas.Bool.{eqb-true}
 use Rattle.std.specs.declared.option.Option.{Option}
 use Rattle.rif_lex.specs.declared.class.Class.{Class}
 use Rattle.rif_lex.specs.declared.class.Class.TheVariants.{White, Letter, Zero, Digit, Underscore, Minus, Question, Quote, Less, Open, Close, OpenSquare, CloseSquare, Equal, Hash, Caret, Other}
 use Rattle.rif_lex.specs.declared.token.Kind.{Kind}
-use Rattle.rif_lex.specs.declared.token.Kind.TheVariants.{Word, Curie, Local, Var, Int, Str, Iri, Open as OpenToken, Close as CloseToken, OpenSquare as OpenSquareToken, CloseSquare as CloseSquareToken, Equal as EqualToken, Hash as HashToken, HashHash, Arrow, Carets}
-use Rattle.rif_lex.specs.declared.piece.Piece.{Piece}
-use Rattle.rif_lex.specs.declared.piece.Piece.TheVariants.{Unreadable, Blank, Lexeme}
+use Rattle.rif_lex.specs.declared.token.Kind.TheVariants.{Str, Iri}
+use Rattle.rif_lex.specs.declared.piece.Piece.TheVariants.{Blank}
 use Rattle.rif_lex.specs.Characters.{class_at, begins, begins_two, begins_name, begins_number}
-use Rattle.rif_lex.specs.Pieces.{name_length, digits_length, longer, string_length, iri_length, annotation_length, token_to, blank_to, named, word_to, integer_to, piece_of, piece_at}
+use Rattle.rif_lex.specs.Pieces.{name_length, digits_length, longer, annotation_length, token_to, blank_to, integer_to, piece_of, piece_at}
 use Rattle.rif_lex.specs.Forms.{has_close, IsWhiteSpace, IsAnnotation, BlanksAreWhite}
 use Rattle.rif_lex.proofs.TestLemmas.{by_test, both, neither, longer_one}
 use Rattle.rif_lex.proofs.SplitLemmas.{open_byte}
@@ -70,19 +69,23 @@ no_blank_token kind None n e = cc
 no_blank_token kind (Some m) n e = cc
 
 no_blank_integer : {P : Type 0} (end n : ℕ) (text : List ℕ) → integer_to end text ≡ Blank n → P
-no_blank_integer end n text e = by_test (begins_name (drop end text) || begins 58 (drop end text)) _ _ _ e (λ _ f. cc) (λ _ f. cc)
+no_blank_integer end n text e =
+    by_test (begins_name (drop end text) || begins 58 (drop end text)) _ _ _ e (λ _ f. cc) (λ _ f. cc)
 
-annotation_at : (b n : ℕ) (bs : List ℕ) → b ≡ 40 → begins 42 bs ≡ true → blank_to (longer 2 (annotation_length (drop 1 bs))) ≡ Blank n → IsAnnotation (b ∷ bs) n
+annotation_at : (b n : ℕ) (bs : List ℕ) → b ≡ 40 → begins 42 bs ≡ true →
+    blank_to (longer 2 (annotation_length (drop 1 bs))) ≡ Blank n → IsAnnotation (b ∷ bs) n
 annotation_at b n [] bracket star e = cc
-annotation_at b n (c ∷ cs) bracket star e = elim (annotation_length cs) as (λ v. annotation_length cs ≡ v → blank_to (longer 2 v) ≡ Blank n → IsAnnotation (b ∷ c ∷ cs) n) [
-  | None ↦ λ _ f. cc
-  | Some m ↦ λ is f. (
-      let at = closed_of cs m is in
-      let end : 2 + m ≡ n = cc in
-      let same : c ≡ 42 = eqb-true c 42 star in
-      let whole : b ∷ c ∷ cs ≡ 40 ∷ 42 ∷ (at.inside ++ 42 ∷ 41 ∷ at.rest) = let rest = at.is in cc in
-      record { inside = at.inside; rest = at.rest; is = whole; next = at.next; long = omega (arith, at.long) })
-] refl e
+annotation_at b n (c ∷ cs) bracket star e =
+    elim (annotation_length cs) as (λ v. annotation_length cs ≡ v → blank_to (longer 2 v) ≡ Blank n →
+    IsAnnotation (b ∷ c ∷ cs) n) [
+      | None ↦ λ _ f. cc
+      | Some m ↦ λ is f. (
+          let at = closed_of cs m is in
+          let end : 2 + m ≡ n = cc in
+          let same : c ≡ 42 = eqb-true c 42 star in
+          let whole : b ∷ c ∷ cs ≡ 40 ∷ 42 ∷ (at.inside ++ 42 ∷ 41 ∷ at.rest) = let rest = at.is in cc in
+          record { inside = at.inside; rest = at.rest; is = whole; next = at.next; long = omega (arith, at.long) })
+    ] refl e
 
 -- a blank piece by the class of its first byte
 IsBlankOf : Class → ℕ → List ℕ → ℕ → Type 0
@@ -111,7 +114,8 @@ blank_of CloseSquare b n bs e = cc
 blank_of Equal b n bs e = cc
 blank_of Other b n bs e = cc
 
-blank_at : (c : Class) (b n : ℕ) (bs : List ℕ) → class_at b ≡ c → IsBlankOf c b bs n → IsWhiteSpace (b ∷ bs) n ⊎ IsAnnotation (b ∷ bs) n
+blank_at : (c : Class) (b n : ℕ) (bs : List ℕ) → class_at b ≡ c → IsBlankOf c b bs n →
+    IsWhiteSpace (b ∷ bs) n ⊎ IsAnnotation (b ∷ bs) n
 unfolding IsBlankOf
 blank_at White b n bs is blank = inl (record { first = b; rest = bs; is = refl; white = is; one = blank })
 blank_at Open b n bs is blank = inr (annotation_at b n bs (open_byte b is) blank.0 blank.1)

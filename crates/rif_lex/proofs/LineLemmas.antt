@@ -1,24 +1,25 @@
 -- A token stands in one line.
-use Rattle.std.proofs.Common.{◌≡◌, ℕ, ◌+◌, List, [], ◌∷◌, ◌++◌, inl, inr, length, take, suc, refl, ap, ◌∙◌, sym, subst, arith, true, false, cond, Bool, ◌==◌, ◌||◌, not}
+use Rattle.std.proofs.Common.{◌≡◌, ℕ, ◌+◌, List, [], ◌∷◌, ◌++◌, inl, inr, take, suc, refl, ◌∙◌, arith, true, false, cond, Bool, ◌==◌}
 use Rattle.std.specs.List.{flat_map, AllByRecursion}
-use Rattle.rif_lex.specs.declared.class.Class.TheVariants.{Letter}
 use Rattle.rif_lex.specs.declared.token.Kind.{Kind}
 use Rattle.rif_lex.specs.declared.token.Kind.TheVariants.{Word, Curie, Local, Var, Int, Str, Iri, Open, Close, OpenSquare, CloseSquare, Equal, Hash, HashHash, Arrow, Carets}
 use Rattle.rif_lex.specs.declared.piece.Piece.TheVariants.{Lexeme}
 use Rattle.rif_lex.specs.Characters.{class_at, is_name, is_digit, is_first_digit, is_escape, is_inside_iri}
 use Rattle.rif_lex.specs.Pieces.{piece_at}
 use Rattle.rif_lex.specs.Places.{line_feeds}
-use Rattle.rif_lex.specs.Forms.{AreNames, IsWord, IsCurie, IsNamed, IsNumber, Part, plain, escape, part_text, is_part, IsString, IsIri, HasForm}
+use Rattle.rif_lex.specs.Forms.{AreNames, IsWord, IsCurie, IsNumber, Part, plain, escape, part_text, is_part, IsString, IsIri, HasForm}
 use Rattle.rif_lex.proofs.TestLemmas.{differs}
 use Rattle.rif_lex.proofs.SplitLemmas.{piece_splits}
 use Rattle.rif_lex.proofs.FollowLemmas.{split_front}
 
 line_feeds-append : (xs ys : List ℕ) → line_feeds (xs ++ ys) ≡ line_feeds xs + line_feeds ys
 line_feeds-append [] ys = omega arith
-line_feeds-append (x ∷ xs) ys = elim (x == 10) as (λ v. cond v (suc (line_feeds (xs ++ ys))) (line_feeds (xs ++ ys)) ≡ cond v (suc (line_feeds xs)) (line_feeds xs) + line_feeds ys) [
-  | true ↦ omega (arith, line_feeds-append xs ys)
-  | false ↦ line_feeds-append xs ys
-]
+line_feeds-append (x ∷ xs) ys =
+    elim (x == 10) as (λ v. cond v (suc (line_feeds (xs ++ ys))) (line_feeds (xs ++ ys))
+    ≡ cond v (suc (line_feeds xs)) (line_feeds xs) + line_feeds ys) [
+      | true ↦ omega (arith, line_feeds-append xs ys)
+      | false ↦ line_feeds-append xs ys
+    ]
 
 -- bytes of which each passes a test that no line feed passes
 all_in_line : (p : ℕ → Bool) (bs : List ℕ) → p 10 ≡ false → AllByRecursion (λ b. p b ≡ true) bs → line_feeds bs ≡ 0
@@ -27,7 +28,8 @@ all_in_line p (b ∷ bs) never all = rw (differs p b 10 all.0 never) (all_in_lin
 
 names_in_line : (bs rest : List ℕ) → AreNames bs rest → line_feeds bs ≡ 0
 names_in_line [] rest names = refl
-names_in_line (b ∷ bs) rest names = rw (differs (λ x. is_name (class_at x) (bs ++ rest)) b 10 names.0 refl) (names_in_line bs rest names.1)
+names_in_line (b ∷ bs) rest names =
+    rw (differs (λ x. is_name (class_at x) (bs ++ rest)) b 10 names.0 refl) (names_in_line bs rest names.1)
 
 word_in_line : (text rest : List ℕ) → IsWord text rest → line_feeds text ≡ 0
 word_in_line text rest w =
@@ -41,7 +43,8 @@ curie_in_line text rest c =
 
 number_in_line : (text : List ℕ) → IsNumber text → line_feeds text ≡ 0
 number_in_line text n =
-    rw (n.is, differs (λ x. is_first_digit (class_at x)) n.first 10 n.first_digit refl) (all_in_line (λ d. is_digit (class_at d)) n.more refl n.digits)
+    rw (n.is, differs (λ x. is_first_digit (class_at x)) n.first 10 n.first_digit refl)
+    (all_in_line (λ d. is_digit (class_at d)) n.more refl n.digits)
 
 int_in_line : (text rest : List ℕ) → HasForm Int text rest → line_feeds text ≡ 0
 int_in_line text rest form = elim form [

@@ -7,7 +7,8 @@ use Rattle.rif_lex.specs.declared.piece.Piece.TheVariants.{Lexeme}
 use Rattle.rif_lex.specs.Pieces.{longer, blank_to}
 
 -- a choice by a test, taken apart
-pub by_test : {A P : Type 0} (test : Bool) (x y z : A) → cond test x y ≡ z → (test ≡ true → x ≡ z → P) → (test ≡ false → y ≡ z → P) → P
+pub by_test : {A P : Type 0} (test : Bool) (x y z : A) → cond test x y ≡ z → (test ≡ true → x ≡ z → P) →
+    (test ≡ false → y ≡ z → P) → P
 by_test true x y z e holds fails = holds refl e
 by_test false x y z e holds fails = fails refl e
 

@@ -1,4 +1,5 @@
--- The forms of tokens, as the table of tokens has them, each by what a text is put together from; and which of them stands
+-- The forms of tokens, as the table of tokens has them, each by what a text is put together from; and which of them
+-- stands
 -- at the front of a text: the longest.
 -- Source: the project's own (docs/FORMATS.md, "Tokens").
 use Rattle.std.specs.Prelude.{◌≡◌, ◌⊎◌, ◌↔◌, ℕ, ◌+◌, ◌≤◌, ◌<◌, ◌==◌, ◌||◌, not, Bool, true, false, List, [], ◌∷◌, ◌++◌, length, take, drop, codes}
@@ -102,7 +103,8 @@ pub record IsLongest (text : List ℕ) (kind : Kind) (n : ℕ) : Type 0 where
   pub longest : (k : Kind) (m : ℕ) → n < m → m ≤ length text → HasForm k (take m text) (drop m text) → ⊥
   pub ends : MayEnd kind (drop n text)
 
--- Law: the token at the front of a text is the longest that has a form there, and there is one exactly where it may end.
+-- Law: the token at the front of a text is the longest that has a form there, and there is one exactly where it may
+-- end.
 abbrev pub TokensAreLongest : Type 0
 TokensAreLongest = (text : List ℕ) (kind : Kind) (n : ℕ) → (piece_at text ≡ Lexeme kind n) ↔ IsLongest text kind n
 
