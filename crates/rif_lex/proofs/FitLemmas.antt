@@ -1,5 +1,5 @@
 -- A piece has a byte at least, and lies within the text at whose front it stands.
-use Rattle.std.proofs.Common.{◌≡◌, ℕ, ◌+◌, ◌≤◌, ◌<◌, List, [], ◌∷◌, length, drop, get_or, suc, refl, arith, true, false, cond, Bool, ◌==◌, ◌||◌, ◌&&◌, Some, None, IfSome}
+use Rattle.std.proofs.Common.{◌≡◌, ℕ, ◌+◌, ◌≤◌, ◌<◌, List, [], ◌∷◌, length, drop, get_or, suc, refl, arith, true, false, cond, Bool, ◌==◌, ◌||◌, Some, None, IfSome}
 use Rattle.std.proofs.lemmas.List.{length-drop}
 use Rattle.std.specs.declared.option.Option.{Option}
 use Rattle.rif_lex.specs.declared.class.Class.{Class}
@@ -7,10 +7,10 @@ use Rattle.rif_lex.specs.declared.class.Class.TheVariants.{White, Letter, Zero, 
 use Rattle.rif_lex.specs.declared.token.Kind.{Kind}
 use Rattle.rif_lex.specs.declared.token.Kind.TheVariants.{Local, Var, Str, Iri}
 use Rattle.rif_lex.specs.declared.piece.Piece.{Piece}
-use Rattle.rif_lex.specs.declared.piece.Piece.TheVariants.{Unreadable, Blank, Lexeme}
 use Rattle.rif_lex.specs.Characters.{class_at, begins, begins_two, begins_name, begins_number, is_name, is_digit, is_escape, is_inside_iri}
 use Rattle.rif_lex.specs.Pieces.{name_length, digits_length, longer, string_length, escaped_length, iri_length, annotation_length, token_to, blank_to, named, word_to, integer_to, piece_of, piece_at}
 use Rattle.rif_lex.specs.Scanning.{FitsIn}
+use Rattle.rif_lex.proofs.TestLemmas.{both}
 
 pub name_length_le : (bs : List ℕ) → name_length bs ≤ length bs
 name_length_le [] = omega arith
@@ -30,7 +30,8 @@ digits_length_le (b ∷ bs) = elim (is_digit (class_at b)) as (λ v. cond v (suc
 abbrev EndsWithin : Option ℕ → ℕ → Type 0
 EndsWithin o n = IfSome o (λ end. end ≤ n)
 
-either_within : (test : Bool) (x y : Option ℕ) (n : ℕ) → (test ≡ true → EndsWithin x n) → EndsWithin y n → EndsWithin (cond test x y) n
+either_within : (test : Bool) (x y : Option ℕ) (n : ℕ) → (test ≡ true → EndsWithin x n) → EndsWithin y n →
+    EndsWithin (cond test x y) n
 either_within true x y n first second = first refl
 either_within false x y n first second = second
 
@@ -68,10 +69,6 @@ begins_some c (b ∷ bs) is = omega arith
 pub drop_some : (c at : ℕ) (bs : List ℕ) → begins c (drop at bs) ≡ true → at + 1 ≤ length bs
 drop_some c at bs is = omega (arith, begins_some c (drop at bs) is, length-drop at bs)
 
-both : (s t : Bool) → s && t ≡ true → (s ≡ true) × (t ≡ true)
-both true t e = (refl, e)
-both false t e = cc
-
 annotation_within : (bs : List ℕ) → EndsWithin (annotation_length bs) (length bs)
 annotation_within [] = tt
 annotation_within (b ∷ bs) =
@@ -98,7 +95,8 @@ integer_fits end text some within =
     either_fits (begins_name (drop end text) || begins 58 (drop end text)) _ _ _ (λ _. tt) (some, within)
 
 number_fits : (b : ℕ) (bs : List ℕ) → FitsIn (integer_to (1 + digits_length bs) (b ∷ bs)) (suc (length bs))
-number_fits b bs = let digits = digits_length_le bs in integer_fits (1 + digits_length bs) (b ∷ bs) (omega arith) (omega arith)
+number_fits b bs = let digits = digits_length_le bs in
+    integer_fits (1 + digits_length bs) (b ∷ bs) (omega arith) (omega arith)
 
 named_fits : (kind : Kind) (bs : List ℕ) → FitsIn (named kind (name_length bs)) (suc (length bs))
 named_fits kind bs =
@@ -108,12 +106,14 @@ token_fits : (kind : Kind) (o : Option ℕ) (n : ℕ) → EndsWithin o n → Fit
 token_fits kind None n within = tt
 token_fits kind (Some end) n within = (omega arith, omega arith)
 
-blank_fits : (bs : List ℕ) → begins 42 bs ≡ true → FitsIn (blank_to (longer 2 (annotation_length (drop 1 bs)))) (suc (length bs))
+blank_fits : (bs : List ℕ) → begins 42 bs ≡ true →
+    FitsIn (blank_to (longer 2 (annotation_length (drop 1 bs)))) (suc (length bs))
 blank_fits [] star = cc
-blank_fits (c ∷ cs) star = elim (annotation_length cs) as (λ o. EndsWithin o (length cs) → FitsIn (blank_to (longer 2 o)) (suc (suc (length cs)))) [
-  | None ↦ λ _. tt
-  | Some end ↦ λ within. (omega arith, omega arith)
-] (annotation_within cs)
+blank_fits (c ∷ cs) star = elim (annotation_length cs) as (λ o. EndsWithin o (length cs) →
+    FitsIn (blank_to (longer 2 o)) (suc (suc (length cs)))) [
+      | None ↦ λ _. tt
+      | Some end ↦ λ within. (omega arith, omega arith)
+    ] (annotation_within cs)
 
 sign_fits : (n : ℕ) → (1 ≤ 1) × (1 ≤ suc n)
 sign_fits n = (omega arith, omega arith)
@@ -123,7 +123,8 @@ signs_fit c bs is = (omega arith, omega (arith, begins_some c bs is))
 
 fits_of : (c : Class) (b : ℕ) (bs : List ℕ) → FitsIn (piece_of c (b ∷ bs)) (suc (length bs))
 fits_of White b bs = sign_fits (length bs)
-fits_of Letter b bs = let names = name_length_le bs in word_fits (1 + name_length bs) (b ∷ bs) (omega arith) (omega arith)
+fits_of Letter b bs = let names = name_length_le bs in
+    word_fits (1 + name_length bs) (b ∷ bs) (omega arith) (omega arith)
 fits_of Zero b bs = integer_fits 1 (b ∷ bs) (omega arith) (omega arith)
 fits_of Digit b bs = number_fits b bs
 fits_of Underscore b bs = named_fits Local bs

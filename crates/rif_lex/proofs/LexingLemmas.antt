@@ -15,7 +15,7 @@ use Rattle.rif_lex.specs.declared.token.Token.{Token}
 use Rattle.rif_lex.specs.declared.place.Place.{Place}
 use Rattle.rif_lex.specs.Pieces.{piece_at}
 use Rattle.rif_lex.specs.Places.{place_after, place_past}
-use Rattle.rif_lex.specs.Lexing.{token_at, with_front, tokens_from, tokens_of, lexed, IsInput, InputsAreTexts}
+use Rattle.rif_lex.specs.Lexing.{token_at, with_front, tokens_from, tokens_of, lexed, InputsAreTexts}
 use Rattle.rif_lex.proofs.TestLemmas.{by_test}
 
 -- what is inside a piece is passed over
@@ -32,7 +32,8 @@ blank_step zero p (b ∷ bs) is some = absurd (omega arith)
 blank_step (suc n) p (b ∷ bs) is some = rw (is, tokens_from) (skipped n (place_after p b) bs)
 
 pub lexeme_step : (kind : Kind) (n : ℕ) (p : Place) (text : List ℕ) → piece_at text ≡ Lexeme kind n → 1 ≤ n →
-    tokens_from 0 p text ≡ with_front (token_at kind p n ∷ []) (tokens_from 0 (place_past p (take n text)) (drop n text))
+    tokens_from 0 p text ≡ with_front (token_at kind p n ∷ [])
+    (tokens_from 0 (place_past p (take n text)) (drop n text))
 lexeme_step kind n p [] is some = cc
 lexeme_step kind zero p (b ∷ bs) is some = absurd (omega arith)
 lexeme_step kind (suc n) p (b ∷ bs) is some =
@@ -58,7 +59,8 @@ pub record IsBehind (text : List ℕ) (p : Place) (n : ℕ) (q : Place) : Type 0
   pub past : q ≡ place_past p (take n (drop p.offset text))
   pub offset : q.offset ≡ p.offset + n
 
-rest_behind : (text : List ℕ) (p q : Place) (n : ℕ) → IsBehind text p n q → drop n (drop p.offset text) ≡ drop q.offset text
+rest_behind : (text : List ℕ) (p q : Place) (n : ℕ) → IsBehind text p n q →
+    drop n (drop p.offset text) ≡ drop q.offset text
 rest_behind text p q n at = drop-drop n p.offset text ∙ ap (λ (i : ℕ). drop i text) (sym at.offset)
 
 pub blank_more : (text : List ℕ) (p q : Place) (n : ℕ) → piece_at (drop p.offset text) ≡ Blank n → IsBehind text p n q →
@@ -78,7 +80,8 @@ lexeme_more text p q kind n is at =
     cc
 
 -- a piece of the rest lies within the whole
-pub within_text : (n at : ℕ) (text : List ℕ) → n ≤ length (take (length text - at) (drop at text)) → at ≤ length text → at + n ≤ length text
+pub within_text : (n at : ℕ) (text : List ℕ) → n ≤ length (take (length text - at) (drop at text)) →
+    at ≤ length text → at + n ≤ length text
 within_text n at text fits within =
     let rest = ap length (take_rest text at) in
     let left = length-drop at text in
@@ -90,7 +93,8 @@ lexed_text bytes short utf8 =
     rw (le-ltb MOST_INPUT_BYTES (length bytes) short, is_utf8-from_IsUtf8 bytes utf8) refl
 
 -- bytes that aren't UTF-8
-pub lexed_broken : (bytes : List ℕ) → length bytes ≤ MOST_INPUT_BYTES → ¬ (IsUtf8 bytes) → lexed bytes ≡ Err (NotUtf8 (utf8_valid_len bytes))
+pub lexed_broken : (bytes : List ℕ) → length bytes ≤ MOST_INPUT_BYTES → ¬ (IsUtf8 bytes) →
+    lexed bytes ≡ Err (NotUtf8 (utf8_valid_len bytes))
 lexed_broken bytes short broken =
     let long = le-ltb MOST_INPUT_BYTES (length bytes) short in
     elim (is_utf8 bytes) as (λ v. is_utf8 bytes ≡ v → lexed bytes ≡ Err (NotUtf8 (utf8_valid_len bytes))) [

@@ -1,11 +1,14 @@
 pub mod TestLemmas
 pub mod ScanLemmas
-pub mod FitLemmas
 pub mod PlaceLemmas
+pub mod FitLemmas
+pub mod FormLemmas
+pub mod SplitLemmas
+pub mod LongestLemmas
+pub mod BlankLemmas
+pub mod FollowLemmas
 pub mod LineLemmas
 pub mod LexingLemmas
-pub mod FrontLemmas
-pub mod AloneLemmas
 pub mod SpellingLemmas
 pub mod CuttingLemmas
 pub mod SpanLemmas

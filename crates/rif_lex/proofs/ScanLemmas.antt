@@ -27,7 +27,8 @@ escape_step at (b ∷ bs) escape =
     rw (escape, longer-longer 1 1 (string_length bs)) (sym (longer-longer at 2 (string_length bs)))
 
 -- a string goes on behind an escape
-pub escape_more : (at : ℕ) (text : List ℕ) → at < length text → get_or text at 0 ≡ 92 → begins_escape (drop (at + 1) text) ≡ true →
+pub escape_more : (at : ℕ) (text : List ℕ) → at < length text → get_or text at 0 ≡ 92 →
+    begins_escape (drop (at + 1) text) ≡ true →
     longer (at + 2) (string_length (drop (at + 2) text)) ≡ longer at (string_length (drop at text))
 escape_more at text within backslash escape =
     let far : drop 1 (drop (at + 1) text) ≡ drop (at + 2) text =

@@ -7,14 +7,14 @@ use Rattle.rif_lex.specs.declared.piece.Piece.TheVariants.{Lexeme}
 use Rattle.rif_lex.specs.declared.place.Place.{Place}
 use Rattle.rif_lex.specs.Pieces.{piece_at}
 use Rattle.rif_lex.specs.Places.{place_past, first_place}
-use Rattle.rif_lex.specs.Lexing.{token_at, with_front, tokens_from, tokens_of}
-use Rattle.rif_lex.specs.Spelling.{Written, written, IsToken, Gap, joined, space, line_feed, gap_text, Spelled, spelled_text, ends_before, AreSeparate, SpelledIsLexed}
-use Rattle.rif_lex.proofs.FitLemmas.{piece_fits}
-use Rattle.rif_lex.proofs.FrontLemmas.{piece_at-append}
+use Rattle.rif_lex.specs.Lexing.{token_at, with_front, tokens_from}
+use Rattle.rif_lex.specs.Spelling.{Written, written, Gap, joined, space, line_feed, gap_text, Spelled, spelled_text, ends_before, AreSeparate, SpelledIsLexed}
+use Rattle.rif_lex.proofs.FollowLemmas.{piece_at-append}
 use Rattle.rif_lex.proofs.PlaceLemmas.{place_past-offset}
 use Rattle.rif_lex.proofs.LexingLemmas.{lexeme_step}
 
-gap_step : (g : Gap) (p : Place) (rest : List ℕ) → tokens_from 0 p (gap_text g ++ rest) ≡ tokens_from 0 (place_past p (gap_text g)) rest
+gap_step : (g : Gap) (p : Place) (rest : List ℕ) →
+    tokens_from 0 p (gap_text g ++ rest) ≡ tokens_from 0 (place_past p (gap_text g)) rest
 gap_step joined p rest = refl
 gap_step space p rest = refl
 gap_step line_feed p rest = refl
@@ -24,13 +24,15 @@ some_bytes k [] e = cc
 some_bytes k (b ∷ bs) e = omega arith
 
 -- the tokens of a token's text, a gap and the rest
-spelled_step : (k : Kind) (text : List ℕ) (g : Gap) (p : Place) (rest : List ℕ) → piece_at text ≡ Lexeme k (length text) →
+spelled_step : (k : Kind) (text : List ℕ) (g : Gap) (p : Place) (rest : List ℕ) →
+    piece_at text ≡ Lexeme k (length text) →
     ends_before k (gap_text g ++ rest) ≡ true →
     tokens_from 0 p (text ++ (gap_text g ++ rest))
     ≡ with_front (token_at k p (length text) ∷ []) (tokens_from 0 (place_past (place_past p text) (gap_text g)) rest)
 spelled_step k text g p rest is ends =
     let behind = gap_text g ++ rest in
-    let step = lexeme_step k (length text) p (text ++ behind) (piece_at-append k (length text) text behind is ends) (some_bytes k text is) in
+    let step = lexeme_step k (length text) p (text ++ behind) (piece_at-append k text behind is ends)
+    (some_bytes k text is) in
     let taken = take_at text behind (length text) refl in
     let left = drop_at text behind (length text) refl in
     let gap = gap_step g (place_past p text) rest in
@@ -46,9 +48,11 @@ written_first k text front rest p at =
     let long : (p.offset + length text) - p.offset ≡ length text = omega arith in
     let left = drop_at front (text ++ rest) p.offset (sym at) in
     let taken = take_at text rest (length text) refl in
-    ap (written_of k) (ap (λ (n : ℕ). take n (drop p.offset (front ++ (text ++ rest)))) long ∙ (ap (take (length text)) left ∙ taken))
+    ap (written_of k) (ap (λ (n : ℕ). take n (drop p.offset (front ++ (text ++ rest)))) long
+    ∙ (ap (take (length text)) left ∙ taken))
 
-spelled_from : (ss : List Spelled) (front : List ℕ) (p : Place) → p.offset ≡ length front → AreSeparate ss → (ts : List Token) ×
+spelled_from : (ss : List Spelled) (front : List ℕ) (p : Place) → p.offset ≡ length front → AreSeparate ss →
+    (ts : List Token) ×
     (tokens_from 0 p (spelled_text ss) ≡ Ok ts) × (map (written (front ++ spelled_text ss)) ts ≡ map (λ s. s.token) ss)
 spelled_from [] front p at separate = ([], refl, refl)
 spelled_from (s ∷ ss) front p at separate =
@@ -58,7 +62,13 @@ spelled_from (s ∷ ss) front p at separate =
     let rest = spelled_text ss in
     let q = place_past (place_past p text) gap in
     let far : q.offset ≡ length (front ++ (text ++ gap)) =
-    omega (arith, place_past-offset p text, place_past-offset (place_past p text) gap, length-append front (text ++ gap), length-append text gap) in
+    omega (
+      arith,
+      place_past-offset p text,
+      place_past-offset (place_past p text) gap,
+      length-append front (text ++ gap),
+      length-append text gap,
+    ) in
     let more = spelled_from ss (front ++ (text ++ gap)) q far separate.2 in
     let step = spelled_step k text s.gap p rest separate.0 separate.1 in
     let whole : front ++ (text ++ gap) ++ rest ≡ front ++ (text ++ (gap ++ rest)) =

@@ -4,4 +4,5 @@ pub mod Places
 pub mod Lexing
 pub mod Cutting
 pub mod Spelling
+pub mod Forms
 pub mod Scanning

@@ -1,10 +1,22 @@
 ghost use Rattle.rif_lex.specs.Lexing.{InputsAreTexts};
+ghost use Rattle.rif_lex.specs.Forms.{TokensAreLongest, BlanksAreWhite};
 ghost use Rattle.rif_lex.specs.Cutting.{TokensAreCut, BadTokenIsFirst, SpansRise, TokensArePlaced, FewTokens};
 ghost use Rattle.rif_lex.specs.Spelling.{SlicesAreTokens, SpelledIsLexed};
 
 /// Law: an input has tokens exactly where it isn't too long, is UTF-8, and its text has them.
 pub fn inputs_are_texts()
     ensures { InputsAreTexts }
+{}
+
+/// Law: the token at the front of a text is the longest that has a form there, and there is one
+/// exactly where what follows may follow it.
+pub fn tokens_are_longest()
+    ensures { TokensAreLongest }
+{}
+
+/// Law: what is passed over at the front of a text is a character of white space, or an annotation.
+pub fn blanks_are_white()
+    ensures { BlanksAreWhite }
 {}
 
 /// Law: a text that has tokens is cut into pieces to its end, and its tokens are those among them.

@@ -22,8 +22,8 @@ mod scan;
 mod token;
 
 pub use laws::{
-    bad_token_is_first, few_tokens, inputs_are_texts, slices_are_tokens, spans_rise,
-    spelled_is_lexed, tokens_are_cut, tokens_are_placed,
+    bad_token_is_first, blanks_are_white, few_tokens, inputs_are_texts, slices_are_tokens,
+    spans_rise, spelled_is_lexed, tokens_are_cut, tokens_are_longest, tokens_are_placed,
 };
 pub use lexer::tokens;
 pub use token::{Kind, Token, Tokens};

@@ -21,7 +21,8 @@ loop-place-preserved-in-Blank c =
     record {
       within = omega (arith, within_text n p.offset text fits.1 c.loop-place.invariant.within);
       counted = c.past-place.ensures.counted;
-      so_far = ap (with_front c.loop-place.found.items) (sym (blank_more text p q n (rw take_rest at (sym c.in-Blank.ensures.is)) at))
+      so_far = ap (with_front c.loop-place.found.items)
+          (sym (blank_more text p q n (rw take_rest at (sym c.in-Blank.ensures.is)) at))
           ∙ c.loop-place.invariant.so_far;
     }
 
@@ -48,4 +49,5 @@ loop-place-preserved c =
     }
 
 pub past_token-place-requires-clause-one_line : goal.past_token-place-requires-clause-one_line
-past_token-place-requires-clause-one_line c = lexeme_in_line _ c.in-Lexeme.kind c.in-Lexeme.length (sym c.in-Lexeme.ensures.is)
+past_token-place-requires-clause-one_line c =
+    lexeme_in_line _ c.in-Lexeme.kind c.in-Lexeme.length (sym c.in-Lexeme.ensures.is)

@@ -7,7 +7,8 @@ abbrev pub invariant-loop-place : goal.invariant-loop-place
 invariant-loop-place l = record {
   within : l.place.offset ≤ length l.text;
   counted : IsCounted l.place;
-  so_far : with_front l.found.items (tokens_from 0 l.place (drop l.place.offset l.text)) ≡ with_front l.initial.found.items (tokens_of l.text);
+  so_far : with_front l.found.items (tokens_from 0 l.place (drop l.place.offset l.text))
+      ≡ with_front l.initial.found.items (tokens_of l.text);
 }
 
 abbrev pub decreases-loop-place : goal.decreases-loop-place
