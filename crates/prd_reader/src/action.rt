@@ -1,8 +1,8 @@
 //! The actions of a rule.
 
 use crate::leaves::Leaves;
-use crate::refusing::left_out;
 use crate::names::Names;
+use crate::refusing::left_out;
 use crate::statement::read_statement;
 use rif_lex::Kind;
 use rif_terms::limits::MOST_ACTIONS;

@@ -1,6 +1,6 @@
 use crate::leaves::Leaves;
-use crate::refusing::left_out;
 use crate::names::Names;
+use crate::refusing::left_out;
 use crate::statement::read_statement;
 use rif_terms::{Fact, Fault};
 use std::alloc::Global;

@@ -128,9 +128,7 @@ impl<'a> Leaves<'a> {
 fn any_variable(tokens: &[Token], bytes: &[u8], name: &[u8]) -> bool
     ensures { result ≡ list_any (λ t. is_variable name.now (leaf_of bytes.now t)) tokens.now }
 {
-    tokens
-        .iter()
-        .any(|token| is_variable(bytes, *token, name))
+    tokens.iter().any(|token| is_variable(bytes, *token, name))
 }
 
 // Whether a token of the bytes is a variable of the name.

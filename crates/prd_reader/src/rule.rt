@@ -3,8 +3,8 @@
 use crate::action::read_block;
 use crate::condition::read_condition;
 use crate::leaves::{Leaves, behind_sign};
-use crate::refusing::left_out;
 use crate::names::Names;
+use crate::refusing::left_out;
 use rif_lex::Kind;
 use rif_terms::{Action, Fault, Formula, Level, OutOfMemory, Rule};
 use sqlite_items::Items;

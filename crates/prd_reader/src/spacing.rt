@@ -33,5 +33,7 @@ fn between(bytes: &[u8], from: usize, to: usize) -> &[u8] {
 }
 
 fn is_white(bytes: &[u8]) -> bool {
-    bytes.iter().all(|byte| matches!(*byte, b' ' | b'\t' | b'\r' | b'\n'))
+    bytes
+        .iter()
+        .all(|byte| matches!(*byte, b' ' | b'\t' | b'\r' | b'\n'))
 }

@@ -4,8 +4,8 @@ ghost use Rattle.std.specs.Str.{IsAscii};
 ghost use Rattle.prd_reader.specs.Leaves.{escape_of, inner, unescaped};
 
 use crate::leaves::{Leaves, behind_sign};
-use crate::refusing::left_out;
 use crate::names::Names;
+use crate::refusing::left_out;
 use itoa::Buffer;
 use rif_lex::Kind;
 use rif_terms::{Const, Fault, Integer, OutOfMemory, Term, Text};

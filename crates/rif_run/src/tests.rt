@@ -13,7 +13,8 @@ fn texts(alloc: Global, words: &[&str]) -> Result<Vec<Text>, OutOfMemory> {
     Ok(texts)
 }
 
-const DISCOUNT: &[u8] = b"Document(Group(Forall ?c (If ?c # _Customer Then Do(Assert(?c[_discount->5])))))
+const DISCOUNT: &[u8] =
+    b"Document(Group(Forall ?c (If ?c # _Customer Then Do(Assert(?c[_discount->5])))))
 %%
 a assert _c1 # _Customer
 a fire 10

@@ -4,7 +4,8 @@ use session_states::Item;
 use std::alloc::Global;
 use std::test::Fail;
 
-const SILVER: &[u8] = b"Document(Group(Forall ?c (If And(?c # _Customer ?c[_status->\"Silver\"]) Then Do(Assert(?c[_discount->5])))))
+const SILVER: &[u8] =
+    b"Document(Group(Forall ?c (If And(?c # _Customer ?c[_status->\"Silver\"]) Then Do(Assert(?c[_discount->5])))))
 %%
 a assert _c1 # _Customer
 a assert _c1[_status->\"Silver\"]
@@ -27,31 +28,82 @@ fn jobs_are_read_or_refused(rt: HostRuntime) -> Result<(), Fail> {
         (b"Document()", 0),
         (b"Document(Group())", 0),
         (b"Document()\n%%", 0),
-        (b"Document()\n%%\r\n# a comment\n \t\r\nif9 retract _x[_s->true]\nif9 fire 0", 0),
-        (b"Document(Group(Forall ?x (If ?x # _C Then Do(Retract(?x # _C) Assert(?x[1->-2])))))", 0),
-        (b"Document(Group(Forall ?x ?y (If ?x[?y->\"a\\\"\\n\"] Then Do(Assert(_a # ?y)))))", 0),
+        (
+            b"Document()\n%%\r\n# a comment\n \t\r\nif9 retract _x[_s->true]\nif9 fire 0",
+            0,
+        ),
+        (
+            b"Document(Group(Forall ?x (If ?x # _C Then Do(Retract(?x # _C) Assert(?x[1->-2])))))",
+            0,
+        ),
+        (
+            b"Document(Group(Forall ?x ?y (If ?x[?y->\"a\\\"\\n\"] Then Do(Assert(_a # ?y)))))",
+            0,
+        ),
         (b"", 8),
         (b"%%\n", 8),
         (b"Document() Document()", 8),
         (b"Document(Group 3())", 8),
         (b"Document(Group())\n%% \na fire 1", 8),
-        (b"Document(Group(Forall ?x ?y (If ?x # _C Then Do(Assert(?x # _D)))))", 8),
-        (b"Document(Group(Forall ?x (If ?x # _C Then Do(Assert(?y # _D)))))", 8),
-        (b"Document(Group(Forall ?x ?x (If ?x # _C Then Do(Assert(?x # _D)))))", 8),
-        (b"Document(Group(Forall (If _x # _C Then Do(Assert(_x # _D)))))", 8),
-        (b"Document(Group(Forall ?x (If And() Then Do(Assert(_x # _D)))))", 8),
-        (b"Document(Group(Forall ?x (If And(And(?x # _C)) Then Do(Assert(_x # _D)))))", 8),
+        (
+            b"Document(Group(Forall ?x ?y (If ?x # _C Then Do(Assert(?x # _D)))))",
+            8,
+        ),
+        (
+            b"Document(Group(Forall ?x (If ?x # _C Then Do(Assert(?y # _D)))))",
+            8,
+        ),
+        (
+            b"Document(Group(Forall ?x ?x (If ?x # _C Then Do(Assert(?x # _D)))))",
+            8,
+        ),
+        (
+            b"Document(Group(Forall (If _x # _C Then Do(Assert(_x # _D)))))",
+            8,
+        ),
+        (
+            b"Document(Group(Forall ?x (If And() Then Do(Assert(_x # _D)))))",
+            8,
+        ),
+        (
+            b"Document(Group(Forall ?x (If And(And(?x # _C)) Then Do(Assert(_x # _D)))))",
+            8,
+        ),
         (b"Document(Group(Forall ?x (If ?x # _C Then Do())))", 8),
-        (b"Document(Group(Forall ?x (If ?x[_s->1 _t->2] Then Do(Assert(?x # _D)))))", 8),
+        (
+            b"Document(Group(Forall ?x (If ?x[_s->1 _t->2] Then Do(Assert(?x # _D)))))",
+            8,
+        ),
         (b"Document((* note *))", 8),
         (b"Document()\n%%\n(* note *)", 8),
-        (b"Document(Group(Forall ?x (If ?x # xs:integer Then Do(Assert(?x # _D)))))", 8),
-        (b"Document(Group(Forall ?x (If ?x # <http://e/> Then Do(Assert(?x # _D)))))", 8),
-        (b"Document(Group(Forall ?x (If ?x # \"1\"^^xs:integer Then Do(Assert(?x # _D)))))", 8),
-        (b"Document(Group(Forall ?x (If ?x # \"\xc3\xa9\" Then Do(Assert(?x # _D)))))", 8),
-        (b"Document(Group(Forall ?x (If ?x # 05 Then Do(Assert(?x # _D)))))", 8),
-        (b"Document(Group(Forall ?x (If ?x # 9223372036854775808 Then Do(Assert(?x # _D)))))", 8),
-        (b"Document(Group(Forall ?x (If ?x # -9223372036854775808 Then Do(Assert(?x # _D)))))", 0),
+        (
+            b"Document(Group(Forall ?x (If ?x # xs:integer Then Do(Assert(?x # _D)))))",
+            8,
+        ),
+        (
+            b"Document(Group(Forall ?x (If ?x # <http://e/> Then Do(Assert(?x # _D)))))",
+            8,
+        ),
+        (
+            b"Document(Group(Forall ?x (If ?x # \"1\"^^xs:integer Then Do(Assert(?x # _D)))))",
+            8,
+        ),
+        (
+            b"Document(Group(Forall ?x (If ?x # \"\xc3\xa9\" Then Do(Assert(?x # _D)))))",
+            8,
+        ),
+        (
+            b"Document(Group(Forall ?x (If ?x # 05 Then Do(Assert(?x # _D)))))",
+            8,
+        ),
+        (
+            b"Document(Group(Forall ?x (If ?x # 9223372036854775808 Then Do(Assert(?x # _D)))))",
+            8,
+        ),
+        (
+            b"Document(Group(Forall ?x (If ?x # -9223372036854775808 Then Do(Assert(?x # _D)))))",
+            0,
+        ),
         (b"Document()\n%%\na fire -1", 8),
         (b"Document()\n%%\na fire 1000000\nb fire 1", 8),
         (b"Document()\n%%\nabcdefghijklmnop fire 1", 0),
@@ -124,6 +176,9 @@ fn the_script_is_read(rt: HostRuntime) -> Result<(), Fail> {
 fn the_document_is_read(rt: HostRuntime) -> Result<(), Fail> {
     let job = read_job(rt.alloc(), SILVER)?;
     let shown = format!(in rt.alloc(); "{:?}", job.doc)?;
-    assert_eq!(rt; shown.as_str(), "Doc { rules: Items { items: [Rule { priority: 0, names: Items { items: [\"c\"] }, levels: Items { items: [Level { vars: Items { items: [0] }, such_that: Items { items: [] } }] }, condition: Some(And(Items { items: [Member(Var(0), Const(Local(\"Customer\"))), Frame(Var(0), Items { items: [(Const(Local(\"status\")), Const(Str(\"Silver\")))] })] })), decls: Items { items: [] }, actions: Items { items: [Assert(Frame(Var(0), Items { items: [(Const(Local(\"discount\")), Const(Int(5)))] }))] } }] } }");
+    assert_eq!(rt;
+        shown.as_str(),
+        "Doc { rules: Items { items: [Rule { priority: 0, names: Items { items: [\"c\"] }, levels: Items { items: [Level { vars: Items { items: [0] }, such_that: Items { items: [] } }] }, condition: Some(And(Items { items: [Member(Var(0), Const(Local(\"Customer\"))), Frame(Var(0), Items { items: [(Const(Local(\"status\")), Const(Str(\"Silver\")))] })] })), decls: Items { items: [] }, actions: Items { items: [Assert(Frame(Var(0), Items { items: [(Const(Local(\"discount\")), Const(Int(5)))] }))] } }] } }"
+    );
     Ok(())
 }
