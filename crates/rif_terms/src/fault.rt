@@ -1,3 +1,5 @@
+ghost use Rattle.std.specs.Prelude.{◌≡◌, IfOk};
+
 use crate::refusal::Refusal;
 use std::alloc::{AllocError, AllocFailed};
 use thiserror::Error;
@@ -28,6 +30,18 @@ pub enum Fault {
     /// No memory was found.
     #[error("out of memory")]
     OutOfMemory,
+}
+
+impl Fault {
+    /// An equal fault, in constant time.
+    pub fn copy(&self) -> Result<Fault, OutOfMemory>
+        ensures { IfOk result (λ copy. copy ≡ self.now) }
+    {
+        match self {
+            Fault::Refused(refusal) => Ok(Fault::Refused(refusal.copy()?)),
+            Fault::OutOfMemory => Ok(Fault::OutOfMemory),
+        }
+    }
 }
 
 impl From<OutOfMemory> for Fault {

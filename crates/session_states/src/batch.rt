@@ -53,7 +53,6 @@ impl Batch {
         ensures entries { result.now ≡ self.now }
         ensures lawful { IsLawful self.now }
     {
-        let _entries = &self.entries;
         self.entries.as_slice()
     }
 
