@@ -3,7 +3,7 @@ use Rattle.std.proofs.Common.{◌≡◌, ◌∙◌, sym, subst, ℕ, ◌-◌, su
 use Rattle.std.specs.List.{list_any}
 use Rattle.rif_terms.specs.declared.refusal.Refusal.TheVariants.{LeftOut}
 use Rattle.rif_terms.specs.declared.fault.Fault.{Fault}
-use Rattle.rif_terms.specs.declared.fault.Fault.TheVariants.{Refused}
+use Rattle.rif_terms.specs.declared.fault.Fault.TheVariants.{Refused, OutOfMemory}
 use Rattle.rif_lex.specs.declared.token.Kind.{Kind}
 use Rattle.rif_lex.specs.declared.token.Kind.TheVariants.{Word, Curie, Local, Var, Int, Str, Iri, Open, Close, OpenSquare, CloseSquare, Equal, Hash, HashHash, Arrow, Carets}
 use Rattle.rif_lex.specs.declared.token.Token.{Token}
@@ -75,3 +75,8 @@ length-leaves_of f (t ∷ ts) = ap suc (length-leaves_of f ts)
 pub before-leaves_of : (bytes other : List ℕ) (ts us : List Token) (n : ℕ) → n ≡ length ts - length us → leaves_of bytes (take n ts) ≡ before (leaves_of bytes ts) (leaves_of other us)
 before-leaves_of bytes other ts us n is =
     take-map (leaf_of bytes) n ts ∙ ap (λ (k : ℕ). take k (leaves_of bytes ts)) (is ∙ sym (ap (λ (k : ℕ). k - length (leaves_of other us)) (length-leaves_of (leaf_of bytes) ts) ∙ ap (λ (k : ℕ). length ts - k) (length-leaves_of (leaf_of other) us)))
+
+-- a refusal is one of whatever gives nothing then
+pub refuses_as : {A B : Type 0} (fault : Fault) (a : Option A) (b : Option B) → Refuses fault a → (a ≡ None → b ≡ None) → Refuses fault b
+refuses_as OutOfMemory a b refuses then = tt
+refuses_as (Refused r) a b refuses then = (refuses.0, then refuses.1)

@@ -1,2 +1,11 @@
+pub mod ActionLemmas
 pub mod AsciiLemmas
+pub mod DocumentLemmas
+pub mod FormulaLemmas
+pub mod FrontLemmas
 pub mod LeavesLemmas
+pub mod ListLemmas
+pub mod NameLemmas
+pub mod NumberLemmas
+pub mod RuleLemmas
+pub mod TermLemmas

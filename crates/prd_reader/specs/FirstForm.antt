@@ -5,6 +5,9 @@ use Rattle.std.specs.Char.{is_ascii}
 use Rattle.std.specs.List.{list_all, list_any}
 use Rattle.rif_terms.specs.declared.integer.TheConstants.{LEAST_INTEGER, GREATEST_INTEGER}
 use Rattle.rif_terms.specs.declared.limits.TheConstants.{MOST_VARIABLES, MOST_PATTERNS, MOST_ACTIONS}
+use Rattle.rif_terms.specs.declared.refusal.Refusal.TheVariants.{LeftOut}
+use Rattle.rif_terms.specs.declared.fault.Fault.{Fault}
+use Rattle.rif_terms.specs.declared.fault.Fault.TheVariants.{Refused, OutOfMemory}
 use Rattle.rif_terms.specs.declared.rule.Doc.{Doc}
 use Rattle.rif_lex.specs.declared.token.Token.{Token}
 use Rattle.prd_reader.specs.Leaves.{Leaf, word, curie, local, var, int, str, iri, mark, leaves_of}
@@ -129,3 +132,12 @@ pub record IsFirstForm (tokens : List Token) (bytes : List ℕ) (doc : Doc) : Ty
   pub spelled : spell_document tree ≡ leaves_of bytes tokens
   pub first : IsFirstTree tree
   pub value : document_value tree ≡ doc
+
+-- a call that gives no document: it has no memory, or refuses tokens that are no document of the first form
+abbrev pub RefusesFirstForm : List Token → List ℕ → Fault → Type 0
+RefusesFirstForm tokens bytes OutOfMemory = Unit {0}
+RefusesFirstForm tokens bytes (Refused refusal) = (refusal ≡ LeftOut 1 1) × ((doc : Doc) → IsFirstForm tokens bytes doc → ⊥)
+
+-- law: tokens are one document at most
+abbrev pub OneDocument : Type 0
+OneDocument = (tokens : List Token) (bytes : List ℕ) (a b : Doc) → IsFirstForm tokens bytes a → IsFirstForm tokens bytes b → a ≡ b

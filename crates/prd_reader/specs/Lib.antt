@@ -1,5 +1,6 @@
 pub mod FirstForm
 pub mod Leaves
+pub mod Numbers
 pub mod Reading
 pub mod Trees
 pub mod Values

@@ -1,6 +1,7 @@
 -- The document that a tree stands for. In it a variable is its place in its rule's names.
 -- Source: the project's own (docs/FORMATS.md, "The document's tree").
 use Rattle.std.specs.Prelude.{◌≡◌, ℕ, ℤ, pos, Bool, true, false, ◌||◌, if◌then◌else◌, List, [], ◌∷◌, ◌++◌, Option, Some, None, bytes_eq, suc, zero}
+use Rattle.std.specs.List.{list_any}
 use Rattle.rif_terms.specs.declared.constant.Const.{Const}
 use Rattle.rif_terms.specs.declared.constant.Const.TheVariants.{Int, Bool as BoolConst, Str, Local}
 use Rattle.rif_terms.specs.declared.tree.Term.{Term}
@@ -18,8 +19,7 @@ use Rattle.prd_reader.specs.Trees.{ConstTree, const_int, const_string, const_loc
 
 -- whether a name is one of some, and its place among them, counted from 0
 abbrev pub has_name : List (List ℕ) → List ℕ → Bool
-has_name [] v = false
-has_name (n ∷ ns) v = bytes_eq n v || has_name ns v
+has_name names v = list_any (λ n. bytes_eq n v) names
 
 abbrev pub place_of : List (List ℕ) → List ℕ → ℕ
 place_of [] v = 0

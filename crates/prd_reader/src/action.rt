@@ -1,4 +1,6 @@
 //! The actions of a rule.
+ghost use Rattle.rif_terms.specs.declared.limits.TheConstants.{MOST_ACTIONS};
+ghost use Rattle.prd_reader.specs.Reading.{Gives, action_at, actions_at, block_at, retract_at, seen, target_at, with_seen};
 
 use crate::leaves::Leaves;
 use crate::names::Names;
@@ -15,12 +17,28 @@ pub fn read_block<'a>(
     alloc: Global,
     names: &Names,
     at: Leaves<'a>,
-) -> Result<(Items<Action>, Leaves<'a>), Fault> {
-    let (actions, at) = read_actions(alloc, names, at, MOST_ACTIONS)?;
+) -> Result<(Items<Action>, Leaves<'a>), Fault>
+    ensures { Gives with_seen result (block_at MOST_ACTIONS names.now.all (seen at.entry)) }
+{
+    read_some_actions(alloc, names, at, MOST_ACTIONS)
+}
+
+// The actions at the front, at least one and at most so many, and the bracket that closes them.
+#[tactic(auto, unfolding(crate::specs::Reading::block_at))]
+fn read_some_actions<'a>(
+    alloc: Global,
+    names: &Names,
+    at: Leaves<'a>,
+    most: u64,
+) -> Result<(Items<Action>, Leaves<'a>), Fault>
+    ensures { Gives with_seen result (block_at most names.now.all (seen at.entry)) }
+{
+    let (actions, at) = read_actions(alloc, names, at, most)?;
+    let at = at.past(Kind::Close)?;
     if actions.is_empty() {
         return Err(left_out());
     }
-    Ok((actions, at.past(Kind::Close)?))
+    Ok((actions, at))
 }
 
 // The actions up to a closing bracket, or up to so many.
@@ -29,12 +47,14 @@ fn read_actions<'a>(
     names: &Names,
     from: Leaves<'a>,
     most: u64,
-) -> Result<(Items<Action>, Leaves<'a>), Fault> {
+) -> Result<(Items<Action>, Leaves<'a>), Fault>
+    ensures { Gives with_seen result (actions_at most names.now.all (seen from.entry)) }
+{
     let mut all = Items::new(alloc);
     let mut at = from;
-    for _ in 0..most {
+    for done in 0..most {
         if at.begins(Kind::Close) {
-            break;
+            return Ok((all, at));
         }
         let (one, next) = read_action(alloc, names, at)?;
         all.push(one)?;
@@ -44,26 +64,44 @@ fn read_actions<'a>(
 }
 
 // One action.
+#[tactic(auto, unfolding(crate::specs::Reading::action_at))]
 fn read_action<'a>(
     alloc: Global,
     names: &Names,
     at: Leaves<'a>,
-) -> Result<(Action, Leaves<'a>), Fault> {
-    if at.begins_word(b"Assert") {
-        let (target, at) = read_target(alloc, names, at.rest())?;
-        return Ok((Action::Assert(target), at));
+) -> Result<(Action, Leaves<'a>), Fault>
+    ensures { Gives with_seen result (action_at names.now.all (seen at.entry)) }
+{
+    if !at.begins_word(b"Assert") {
+        return read_retract(alloc, names, at);
     }
+    let (target, at) = read_target(alloc, names, at.rest())?;
+    Ok((Action::Assert(target), at))
+}
+
+// A `Retract`.
+#[tactic(auto, unfolding(crate::specs::Reading::retract_at))]
+fn read_retract<'a>(
+    alloc: Global,
+    names: &Names,
+    at: Leaves<'a>,
+) -> Result<(Action, Leaves<'a>), Fault>
+    ensures { Gives with_seen result (retract_at names.now.all (seen at.entry)) }
+{
     let at = at.past_word(b"Retract")?;
     let (target, at) = read_target(alloc, names, at)?;
     Ok((Action::Retract(target), at))
 }
 
 // What an action asserts or retracts, in brackets.
+#[tactic(auto, unfolding(crate::specs::Reading::target_at))]
 fn read_target<'a>(
     alloc: Global,
     names: &Names,
     at: Leaves<'a>,
-) -> Result<(Target, Leaves<'a>), Fault> {
+) -> Result<(Target, Leaves<'a>), Fault>
+    ensures { Gives with_seen result (target_at names.now.all (seen at.entry)) }
+{
     let at = at.past(Kind::Open)?;
     let (statement, at) = read_statement(alloc, names, at)?;
     let at = at.past(Kind::Close)?;

@@ -1,3 +1,7 @@
+ghost use Rattle.std.specs.Prelude.{IfErr, IfOk};
+ghost use Rattle.prd_reader.specs.FirstForm.{IsFirstForm, RefusesFirstForm};
+ghost use Rattle.prd_reader.specs.Reading.{Gives, document_at, group_at, in_group, members_at, rules_at, seen, with_seen};
+
 use crate::leaves::Leaves;
 use crate::refusing::left_out;
 use crate::rule::read_rule;
@@ -11,7 +15,10 @@ use std::alloc::Global;
 /// form is refused as left out, at line 1, column 1. The cost is the bytes' length.
 ///
 /// Source: our own (docs/FORMATS.md, "The first form").
-pub fn read_doc(alloc: Global, tokens: &Tokens, bytes: &[u8]) -> Result<Doc, Fault> {
+pub fn read_doc(alloc: Global, tokens: &Tokens, bytes: &[u8]) -> Result<Doc, Fault>
+    ensures read { IfOk result (IsFirstForm tokens.now bytes.now) }
+    ensures refused { IfErr result (RefusesFirstForm tokens.now bytes.now) }
+{
     let tokens = tokens.as_slice();
     if !are_ascii(bytes) {
         return Err(left_out());
@@ -23,7 +30,10 @@ pub fn read_doc(alloc: Global, tokens: &Tokens, bytes: &[u8]) -> Result<Doc, Fau
 }
 
 // The document that the leaves are, all of them.
-fn read_all(alloc: Global, at: Leaves<'_>) -> Result<Doc, Fault> {
+#[tactic(auto, unfolding(crate::specs::Reading::rules_at))]
+fn read_all(alloc: Global, at: Leaves<'_>) -> Result<Doc, Fault>
+    ensures { Gives (λ doc. doc.rules) result (rules_at (seen at.entry)) }
+{
     let (rules, rest) = read_document(alloc, at)?;
     if !rest.is_empty() {
         return Err(left_out());
@@ -32,7 +42,10 @@ fn read_all(alloc: Global, at: Leaves<'_>) -> Result<Doc, Fault> {
 }
 
 // The rules of the document at the front.
-fn read_document<'a>(alloc: Global, at: Leaves<'a>) -> Result<(Items<Rule>, Leaves<'a>), Fault> {
+#[tactic(auto, unfolding(crate::specs::Reading::document_at))]
+fn read_document<'a>(alloc: Global, at: Leaves<'a>) -> Result<(Items<Rule>, Leaves<'a>), Fault>
+    ensures { Gives with_seen result (document_at (seen at.entry)) }
+{
     let at = at.past_word(b"Document")?;
     let at = at.past(Kind::Open)?;
     let (rules, at) = read_group(alloc, at)?;
@@ -41,18 +54,36 @@ fn read_document<'a>(alloc: Global, at: Leaves<'a>) -> Result<(Items<Rule>, Leav
 }
 
 // The rules of the group at the front, and none where there is no group.
-fn read_group<'a>(alloc: Global, at: Leaves<'a>) -> Result<(Items<Rule>, Leaves<'a>), Fault> {
-    if !at.begins_word(b"Group") {
-        return Ok((Items::new(alloc), at));
+#[tactic(auto, unfolding(crate::specs::Reading::group_at))]
+fn read_group<'a>(alloc: Global, at: Leaves<'a>) -> Result<(Items<Rule>, Leaves<'a>), Fault>
+    ensures { Gives with_seen result (group_at (seen at.entry)) }
+{
+    if at.begins_word(b"Group") {
+        read_members_in_brackets(alloc, at.rest())
+    } else {
+        Ok((Items::new(alloc), at))
     }
-    let at = at.rest().past(Kind::Open)?;
+}
+
+// The rules of a group, in its brackets.
+#[tactic(auto, unfolding(crate::specs::Reading::in_group))]
+fn read_members_in_brackets<'a>(
+    alloc: Global,
+    at: Leaves<'a>,
+) -> Result<(Items<Rule>, Leaves<'a>), Fault>
+    ensures { Gives with_seen result (in_group (seen at.entry)) }
+{
+    let at = at.past(Kind::Open)?;
     let (rules, at) = read_members(alloc, at)?;
     let at = at.past(Kind::Close)?;
     Ok((rules, at))
 }
 
 // The rule at the front, if any.
-fn read_members<'a>(alloc: Global, at: Leaves<'a>) -> Result<(Items<Rule>, Leaves<'a>), Fault> {
+#[tactic(auto, unfolding(crate::specs::Reading::members_at))]
+fn read_members<'a>(alloc: Global, at: Leaves<'a>) -> Result<(Items<Rule>, Leaves<'a>), Fault>
+    ensures { Gives with_seen result (members_at (seen at.entry)) }
+{
     let mut rules = Items::new(alloc);
     if at.begins(Kind::Close) {
         return Ok((rules, at));

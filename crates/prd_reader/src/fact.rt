@@ -1,3 +1,5 @@
+ghost use Rattle.prd_reader.specs.Reading.{Gives, fact_at, seen};
+
 use crate::leaves::Leaves;
 use crate::names::Names;
 use crate::refusing::left_out;
@@ -9,7 +11,10 @@ use std::alloc::Global;
 /// else is refused as left out, at line 1, column 1. The cost is the length of their tokens.
 ///
 /// Source: our own (docs/FORMATS.md, "Jobs").
-pub fn read_fact(alloc: Global, at: Leaves<'_>) -> Result<Fact, Fault> {
+#[tactic(auto, unfolding(crate::specs::Reading::fact_at))]
+pub fn read_fact(alloc: Global, at: Leaves<'_>) -> Result<Fact, Fault>
+    ensures { Gives (λ fact. fact) result (fact_at (seen at.entry)) }
+{
     let names = Names::new(alloc);
     let (statement, rest) = read_statement(alloc, &names, at)?;
     if !rest.is_empty() {

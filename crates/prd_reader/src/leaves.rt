@@ -18,11 +18,11 @@ pub struct Leaves<'a> {
 
 impl<'a> Leaves<'a> {
     ghost use Rattle.std.specs.Prelude.{◌≡◌, ◌↔◌, [], drop, IfSome, IsTrue};
-    ghost use Rattle.std.specs.Option.{option_map};
+    ghost use Rattle.std.specs.Option.{option_copied, option_map};
     ghost use Rattle.std.specs.Str.{IsAscii};
     ghost use Rattle.prd_reader.specs.Leaves.{leaf_from, leaves_of};
     ghost use Rattle.prd_reader.specs.FirstForm.{has_variable};
-    ghost use Rattle.prd_reader.specs.Reading.{seen, Gives, first_leaf, begins_kind, begins_word, past_kind, past_word, before};
+    ghost use Rattle.prd_reader.specs.Reading.{seen, Gives, first_leaf, begins_kind, begins_word, past_kind, past_word, before, var_name};
 
     /// The leaves of these tokens.
     pub fn new(tokens: &'a [Token], bytes: &'a [u8]) -> Leaves<'a>
@@ -47,6 +47,17 @@ impl<'a> Leaves<'a> {
         match self.tokens.first() {
             None => None,
             Some(token) => Some((token.kind, text_of(self.bytes, *token))),
+        }
+    }
+
+    /// The name of the variable at the front, if one is there.
+    pub fn variable(self) -> Option<&'a [u8]>
+        ensures name { option_copied result ≡ var_name (first_leaf (seen self.entry)) }
+        ensures ascii { IfSome result (λ name. IsAscii name.now) }
+    {
+        match self.first() {
+            Some((Kind::Var, text)) => Some(behind_sign(text)),
+            _ => None,
         }
     }
 

@@ -13,6 +13,7 @@
 //! | `names.rt` | the names of a rule's variables | `specs/FirstForm.antt` |
 //! | `leaves.rt` | the tokens that are left to read | `specs/Leaves.antt` |
 //! | `spacing.rt` | `are_ascii`, `are_spaced`: that bytes are ASCII, and have no annotation | `specs/FirstForm.antt` |
+//! | `laws.rt` | laws of the definitions, with empty bodies | `specs/FirstForm.antt` |
 //! | `refusing.rt` | `left_out`, the refusal of all else | |
 //!
 //! Begin at `read_doc`.
@@ -22,6 +23,7 @@ mod action;
 mod condition;
 mod document;
 mod fact;
+mod laws;
 mod leaves;
 mod names;
 mod refusing;
@@ -32,6 +34,7 @@ mod term;
 
 pub use document::read_doc;
 pub use fact::read_fact;
+pub use laws::one_document;
 pub use leaves::Leaves;
 pub use refusing::left_out;
 pub use spacing::{are_ascii, are_spaced};

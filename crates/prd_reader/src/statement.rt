@@ -1,4 +1,6 @@
 //! Memberships and frames with one pair, which conditions, actions and facts are made of.
+ghost use Rattle.std.specs.Prelude.{◌≡◌, [], ◌∷◌, IfOk};
+ghost use Rattle.prd_reader.specs.Reading.{Gives, fact_of, formula_of, frame_at, ground_in, member_at, seen, statement_at, target_of, with_seen};
 
 use crate::leaves::Leaves;
 use crate::names::Names;
@@ -18,16 +20,46 @@ pub enum Statement {
 }
 
 /// The statement at the front.
+#[tactic(auto, unfolding(crate::specs::Reading::statement_at))]
 pub fn read_statement<'a>(
     alloc: Global,
     names: &Names,
     at: Leaves<'a>,
-) -> Result<(Statement, Leaves<'a>), Fault> {
+) -> Result<(Statement, Leaves<'a>), Fault>
+    ensures { Gives with_seen result (statement_at names.now.all (seen at.entry)) }
+{
     let (object, at) = read_term(alloc, names, at)?;
     if at.begins(Kind::Hash) {
-        let (class, at) = read_term(alloc, names, at.rest())?;
-        return Ok((Statement::Member(object, class), at));
+        read_member(alloc, names, object, at.rest())
+    } else {
+        read_frame(alloc, names, object, at)
     }
+}
+
+// The membership of an object, from its class on.
+#[tactic(auto, unfolding(crate::specs::Reading::member_at))]
+fn read_member<'a>(
+    alloc: Global,
+    names: &Names,
+    object: Term,
+    at: Leaves<'a>,
+) -> Result<(Statement, Leaves<'a>), Fault>
+    ensures { Gives with_seen result (member_at names.now.all object (seen at.entry)) }
+{
+    let (class, at) = read_term(alloc, names, at)?;
+    Ok((Statement::Member(object, class), at))
+}
+
+// The frame of an object, from its bracket on.
+#[tactic(auto, unfolding(crate::specs::Reading::frame_at))]
+fn read_frame<'a>(
+    alloc: Global,
+    names: &Names,
+    object: Term,
+    at: Leaves<'a>,
+) -> Result<(Statement, Leaves<'a>), Fault>
+    ensures { Gives with_seen result (frame_at names.now.all object (seen at.entry)) }
+{
     let at = at.past(Kind::OpenSquare)?;
     let (slot, at) = read_term(alloc, names, at)?;
     let at = at.past(Kind::Arrow)?;
@@ -38,7 +70,9 @@ pub fn read_statement<'a>(
 
 impl Statement {
     /// The formula that it is in a condition.
-    pub fn into_formula(self, alloc: Global) -> Result<Formula, OutOfMemory> {
+    pub fn into_formula(self, alloc: Global) -> Result<Formula, OutOfMemory>
+        ensures { IfOk result (λ formula. formula ≡ formula_of self) }
+    {
         match self {
             Statement::Member(object, class) => Ok(Formula::Member(object, class)),
             Statement::Frame(object, slot, value) => {
@@ -48,7 +82,9 @@ impl Statement {
     }
 
     /// The target that it is in an action.
-    pub fn into_target(self, alloc: Global) -> Result<Target, OutOfMemory> {
+    pub fn into_target(self, alloc: Global) -> Result<Target, OutOfMemory>
+        ensures { IfOk result (λ target. target ≡ target_of self) }
+    {
         match self {
             Statement::Member(object, class) => Ok(Target::Member(object, class)),
             Statement::Frame(object, slot, value) => {
@@ -58,7 +94,9 @@ impl Statement {
     }
 
     /// The fact that it is where all its terms are constants, else None.
-    pub fn into_fact(self) -> Option<Fact> {
+    pub fn into_fact(self) -> Option<Fact>
+        ensures { result ≡ fact_of self }
+    {
         match self {
             Statement::Member(object, class) => {
                 Some(Fact::Member(constant_in(object)?, constant_in(class)?))
@@ -71,13 +109,17 @@ impl Statement {
     }
 }
 
-fn one_pair(alloc: Global, slot: Term, value: Term) -> Result<Items<(Term, Term)>, OutOfMemory> {
+fn one_pair(alloc: Global, slot: Term, value: Term) -> Result<Items<(Term, Term)>, OutOfMemory>
+    ensures { IfOk result (λ pairs. pairs ≡ (slot, value) ∷ []) }
+{
     let mut pairs = Items::new(alloc);
     pairs.push((slot, value))?;
     Ok(pairs)
 }
 
-fn constant_in(term: Term) -> Option<Const> {
+fn constant_in(term: Term) -> Option<Const>
+    ensures { result ≡ ground_in term }
+{
     match term {
         Term::Const(constant) => Some(constant),
         _ => None,
