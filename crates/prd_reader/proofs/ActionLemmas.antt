@@ -1,5 +1,5 @@
 -- Actions: what is read is spelled so, and what is spelled so is read.
-use Rattle.std.proofs.Common.{◌≡◌, ◌∙◌, sym, subst, ap, refl, ℕ, ◌+◌, ◌≤◌, zero, suc, Bool, true, false, List, [], ◌∷◌, ◌++◌, append_assoc, Option, Some, None, drop, arith, ◌⊎◌, inl, inr}
+use Rattle.std.proofs.Common.{◌≡◌, ◌∙◌, sym, subst, ap, refl, ℕ, ◌≤◌, zero, suc, false, List, [], ◌∷◌, ◌++◌, append_assoc, Option, Some, drop, arith, ◌⊎◌, inl, inr}
 use Rattle.std.specs.Prelude.{codes}
 use Rattle.std.proofs.lemmas.Option.{some_pair_parts}
 use Rattle.rif_terms.specs.declared.rule.Target.{Target}
@@ -7,12 +7,12 @@ use Rattle.rif_terms.specs.declared.rule.Action.{Action}
 use Rattle.rif_terms.specs.declared.rule.Action.TheVariants.{Assert, Retract}
 use Rattle.rif_lex.specs.declared.token.Kind.TheVariants.{Open, Close}
 use Rattle.prd_reader.specs.Leaves.{Leaf, word, mark}
-use Rattle.prd_reader.specs.Trees.{TermTree, spell_term, PairTrees, last_pair, Tail, member_of, with_pairs, spell_tail, TargetTree, target_member, target_frame, spell_target, ActionTree, assert, retract, spell_action, ActionTrees, last_action, actions, spell_actions}
-use Rattle.prd_reader.specs.Values.{term_value, target_value, action_value, actions_value}
+use Rattle.prd_reader.specs.Trees.{TermTree, spell_term, last_pair, Tail, member_of, with_pairs, spell_tail, TargetTree, target_member, target_frame, spell_target, ActionTree, assert, retract, spell_action, ActionTrees, last_action, actions, spell_actions}
+use Rattle.prd_reader.specs.Values.{target_value, action_value, actions_value}
 use Rattle.prd_reader.specs.FirstForm.{FitsTerm, FitsTail, FitsTarget, FitsAction, FitActions, action_count}
-use Rattle.prd_reader.specs.Reading.{◌>>=◌, target_of, statement_at, target_at, retract_at, action_at, actions_at, block_at, some_of, begins_kind, begins_word, past_kind, past_word}
-use Rattle.prd_reader.proofs.FrontLemmas.{bind_some, chosen, some_there, symbol_passed, begins_symbol, word_passed, begins_with_word}
-use Rattle.prd_reader.proofs.TermLemmas.{statement_value, IsStatementTree, statement_read, statement_again}
+use Rattle.prd_reader.specs.Reading.{target_of, statement_at, target_at, retract_at, action_at, actions_at, block_at, begins_kind, begins_word, past_kind, past_word}
+use Rattle.prd_reader.proofs.FrontLemmas.{bind_some, chosen, some_there, symbol_passed, word_passed, begins_with_word}
+use Rattle.prd_reader.proofs.TermLemmas.{statement_value, statement_read, statement_again}
 
 -- a target of its object and what follows
 abbrev target_tree : TermTree → Tail → TargetTree

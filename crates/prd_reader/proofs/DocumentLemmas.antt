@@ -1,5 +1,5 @@
 -- Documents: what is read is spelled so, and what is spelled so is read.
-use Rattle.std.proofs.Common.{◌≡◌, ◌∙◌, sym, subst, ap, refl, ℕ, Bool, true, false, List, [], ◌∷◌, ◌++◌, append_assoc, append-nil, Option, Some, None, drop, ◌⊎◌, inl, inr}
+use Rattle.std.proofs.Common.{◌≡◌, ◌∙◌, sym, subst, ap, refl, ℕ, Bool, true, false, List, [], ◌∷◌, ◌++◌, append_assoc, Option, Some, None, drop, ◌⊎◌, inl, inr}
 use Rattle.std.specs.Prelude.{codes, Ok, Err, IfOk, IfErr}
 use Rattle.std.specs.Char.{is_ascii}
 use Rattle.std.specs.List.{list_all}
@@ -14,12 +14,12 @@ use Rattle.rif_terms.specs.declared.limits.TheConstants.{MOST_VARIABLES, MOST_PA
 use Rattle.rif_terms.specs.declared.rule.Rule.{Rule}
 use Rattle.rif_lex.specs.declared.token.Kind.TheVariants.{Open, Close}
 use Rattle.prd_reader.specs.Leaves.{Leaf, word, mark, leaves_of}
-use Rattle.prd_reader.specs.Trees.{RuleTree, for_all, if_then, spell_rule, MemberTrees, no_members, rule_member, spell_members, GroupTree, group, spell_group, DocumentTree, no_group, one_group, spell_document}
-use Rattle.prd_reader.specs.Values.{rule_value, members_value, group_value, document_value}
-use Rattle.prd_reader.specs.FirstForm.{IsFirstRule, AreFirstMembers, IsFirstTree, are_spaced_from, IsFirstForm, RefusesFirstForm, OneDocument}
-use Rattle.prd_reader.specs.Reading.{◌>>=◌, Gives, rule_at, members_at, in_group, group_at, document_at, rules_at, alone, begins_kind, begins_word, past_kind, past_word}
-use Rattle.prd_reader.proofs.FrontLemmas.{bind_some, chosen, symbol_passed, begins_symbol, word_passed, begins_with_word}
-use Rattle.prd_reader.proofs.RuleLemmas.{IsRuleTree, rule_read, rule_again}
+use Rattle.prd_reader.specs.Trees.{RuleTree, for_all, if_then, spell_rule, MemberTrees, no_members, rule_member, spell_members, group, spell_group, DocumentTree, no_group, one_group, spell_document}
+use Rattle.prd_reader.specs.Values.{members_value, document_value}
+use Rattle.prd_reader.specs.FirstForm.{AreFirstMembers, IsFirstTree, are_spaced_from, IsFirstForm, RefusesFirstForm, OneDocument}
+use Rattle.prd_reader.specs.Reading.{Gives, rule_at, members_at, in_group, group_at, document_at, rules_at, alone, begins_kind, begins_word, past_kind, past_word}
+use Rattle.prd_reader.proofs.FrontLemmas.{bind_some, chosen, symbol_passed, word_passed, begins_with_word}
+use Rattle.prd_reader.proofs.RuleLemmas.{rule_read, rule_again}
 
 record AreMembers (ls : List Leaf) (rules : List Rule) (rest : List Leaf) : Type 0 where
   trees : MemberTrees

@@ -1,5 +1,5 @@
 -- Conditions: what is read is spelled so, and what is spelled so is read.
-use Rattle.std.proofs.Common.{◌≡◌, ◌∙◌, sym, subst, ap, refl, ℕ, ◌+◌, ◌≤◌, zero, suc, Bool, true, false, List, [], ◌∷◌, ◌++◌, append_assoc, Option, Some, None, drop, arith, ◌⊎◌, inl, inr}
+use Rattle.std.proofs.Common.{◌≡◌, ◌∙◌, sym, subst, ap, refl, ℕ, ◌≤◌, zero, suc, false, List, [], ◌∷◌, ◌++◌, append_assoc, Option, Some, drop, arith, inl, inr}
 use Rattle.std.specs.Prelude.{codes}
 use Rattle.std.proofs.lemmas.Option.{some_pair_parts}
 use Rattle.rif_terms.specs.declared.limits.TheConstants.{MOST_PATTERNS}
@@ -7,12 +7,12 @@ use Rattle.rif_terms.specs.declared.tree.Formula.{Formula}
 use Rattle.rif_terms.specs.declared.tree.Formula.TheVariants.{And}
 use Rattle.rif_lex.specs.declared.token.Kind.TheVariants.{Open, Close}
 use Rattle.prd_reader.specs.Leaves.{Leaf, word, mark}
-use Rattle.prd_reader.specs.Trees.{ConstTree, const_int, const_string, const_local, const_true, const_false, TermTree, constant, variable, spell_term, PairTrees, last_pair, Tail, member_of, with_pairs, spell_tail, FormulaTree, conj, compared, FormulaTrees, no_formulas, formulas, spell_formula, spell_formulas}
+use Rattle.prd_reader.specs.Trees.{const_int, const_string, const_local, const_true, const_false, TermTree, constant, variable, spell_term, last_pair, Tail, member_of, with_pairs, spell_tail, FormulaTree, conj, compared, FormulaTrees, no_formulas, formulas, spell_formula, spell_formulas}
 use Rattle.prd_reader.specs.Values.{term_value, tail_value, formula_value, formulas_value}
-use Rattle.prd_reader.specs.FirstForm.{FitsTerm, FitsTail, IsPattern, ArePatterns, formula_count, IsCondition}
-use Rattle.prd_reader.specs.Reading.{◌>>=◌, formula_of, statement_at, pattern_at, patterns_at, conjunction_at, condition_at, begins_kind, begins_word, past_kind}
-use Rattle.prd_reader.proofs.FrontLemmas.{bind_some, chosen, symbol_passed, begins_symbol, begins_with_word}
-use Rattle.prd_reader.proofs.TermLemmas.{statement_value, IsStatementTree, statement_read, statement_again}
+use Rattle.prd_reader.specs.FirstForm.{IsPattern, ArePatterns, formula_count, IsCondition}
+use Rattle.prd_reader.specs.Reading.{formula_of, statement_at, pattern_at, patterns_at, conjunction_at, condition_at, begins_kind, begins_word, past_kind}
+use Rattle.prd_reader.proofs.FrontLemmas.{bind_some, chosen, symbol_passed, begins_with_word}
+use Rattle.prd_reader.proofs.TermLemmas.{statement_value, statement_read, statement_again}
 
 formula_is : (names : List (List ℕ)) (t : TermTree) (tail : Tail) → tail_value names (term_value names t) tail ≡ formula_of (statement_value names t tail)
 formula_is names t (member_of u) = refl

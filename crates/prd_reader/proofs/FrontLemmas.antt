@@ -1,14 +1,13 @@
 -- What is read at the front is spelled so, and what is spelled so is read: leaves and terms.
-use Rattle.std.proofs.Common.{◌≡◌, ◌∙◌, sym, subst, ap, refl, ℕ, ◌+◌, ◌-◌, ◌^◌, ◌<◌, ◌&&◌, ◌||◌, nat_lt, zero, suc, ℤ, pos, negsuc, Bool, true, false, cond, List, [], ◌∷◌, ◌++◌, Option, Some, None, drop, length, arith, ◌⊎◌, inl, inr}
-use Rattle.std.specs.Prelude.{codes, bytes_eq, not}
-use Rattle.std.specs.Fmt.{signed_decimal}
+use Rattle.std.proofs.Common.{◌≡◌, ◌∙◌, ap, refl, ℕ, ◌||◌, Bool, true, false, cond, List, [], ◌∷◌, Option, Some, None, drop, arith, ◌⊎◌, inl, inr}
+use Rattle.std.specs.Prelude.{bytes_eq, not}
 use Rattle.std.proofs.lemmas.Option.{cond_some}
 use Rattle.std.proofs.lemmas.Slice.Eq.{bytes_eq-Decides}
 use Rattle.std.proofs.Common.{rules}
 use denote.Enum.Bare.{same_true}
 use Rattle.rif_lex.specs.contracts.token.Kind.{the_type}
 use Rattle.rif_lex.specs.declared.token.Kind.{Kind}
-use Rattle.rif_lex.specs.declared.token.Kind.TheVariants.{Word, Curie, Local, Var, Int, Str, Iri, Open, Close, OpenSquare, CloseSquare, Equal, Hash, HashHash, Arrow, Carets}
+use Rattle.rif_lex.specs.declared.token.Kind.TheVariants.{Word, Curie, Local, Var, Int, Str, Iri}
 use Rattle.prd_reader.specs.Leaves.{Leaf, word, curie, local, var, int, str, iri, mark}
 use Rattle.prd_reader.specs.Reading.{◌>>=◌, some_of, kind_of, same_kind, begins_kind, past_kind, begins_word, past_word}
 

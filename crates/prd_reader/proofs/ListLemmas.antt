@@ -1,5 +1,5 @@
 -- Lists that end at a closing bracket.
-use Rattle.std.proofs.Common.{◌≡◌, ◌∙◌, sym, ap, refl, ℕ, suc, zero, Bool, true, false, List, [], ◌∷◌, ◌++◌, append_assoc, append-nil, Option, Some, None}
+use Rattle.std.proofs.Common.{◌≡◌, ◌∙◌, sym, ap, refl, ℕ, suc, true, false, List, [], ◌∷◌, ◌++◌, append_assoc, append-nil, Option, Some, None}
 use Rattle.rif_terms.specs.declared.tree.Formula.{Formula}
 use Rattle.rif_terms.specs.declared.rule.Action.{Action}
 use Rattle.rif_lex.specs.declared.token.Kind.TheVariants.{Close}

@@ -1,5 +1,5 @@
 -- Integers: the text that is read is that of an integer in range, and each such text is read.
-use Rattle.std.proofs.Common.{◌≡◌, ◌∙◌, sym, subst, ap, refl, ℕ, ◌^◌, ◌<◌, ◌==◌, ◌&&◌, get_or, suc, nat_lt, ℤ, pos, negsuc, Bool, true, false, cond, List, Option, Some, None, arith}
+use Rattle.std.proofs.Common.{◌≡◌, ◌∙◌, sym, subst, ap, refl, ℕ, ◌^◌, ◌<◌, ◌==◌, ◌&&◌, get_or, suc, ℤ, pos, negsuc, true, false, List, Option, Some, None, arith}
 use Rattle.std.specs.Prelude.{bytes_eq, decimal, neg_ℤ}
 use Rattle.std.specs.Fmt.{signed_decimal}
 use Rattle.std.specs.Str.Parse.{signed_digits_value, digits_value}
@@ -9,7 +9,7 @@ use Rattle.std.proofs.lemmas.Int.{ints}
 use Rattle.std.proofs.lemmas.Str.Parse.{digit_at}
 use Rattle.std.proofs.lemmas.Fmt.{parse-signed_decimal, IsAscii-signed, decimal_is_IsNumeral}
 use Rattle.std.proofs.lemmas.Str.{IsUtf8-from_ascii}
-use Rattle.std.specs.Prelude.{IsUtf8, Ok, Err, FitsSigned, not}
+use Rattle.std.specs.Prelude.{IsUtf8, Ok, FitsSigned}
 use Rattle.std.specs.Int.{w64}
 use Rattle.std.specs.Str.Parse.{ParsesSigned}
 use Rattle.std.specs.declared.result.Result.{Result}

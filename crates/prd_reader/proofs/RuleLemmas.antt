@@ -1,5 +1,5 @@
 -- Rules: what is read is spelled so, and what is spelled so is read.
-use Rattle.std.proofs.Common.{◌≡◌, ◌∙◌, sym, subst, ap, refl, ℕ, ◌+◌, ◌-◌, ◌≤◌, zero, suc, pos, Bool, true, false, List, [], ◌∷◌, ◌++◌, append_assoc, append-nil, length, length-append, take, Option, Some, None, drop, arith}
+use Rattle.std.proofs.Common.{◌≡◌, ◌∙◌, sym, subst, ap, refl, ℕ, ◌-◌, ◌≤◌, pos, true, List, [], ◌∷◌, ◌++◌, append_assoc, append-nil, length, length-append, take, Option, Some, arith}
 use Rattle.std.specs.Prelude.{codes}
 use Rattle.std.specs.List.{list_all, range_with_len}
 use Rattle.std.proofs.lemmas.Option.{some_pair_parts, cond_some}
@@ -12,11 +12,11 @@ use Rattle.prd_reader.specs.Leaves.{Leaf, word, mark}
 use Rattle.prd_reader.specs.Trees.{Vars, spell_vars, FormulaTree, spell_formula, ActionTrees, spell_actions, RuleTree, for_all, if_then, spell_rule}
 use Rattle.prd_reader.specs.Values.{formula_value, actions_value, names_in, places_in, rule_below, rule_value}
 use Rattle.prd_reader.specs.FirstForm.{AreNew, IsCondition, FitActions, action_count, has_variable, IsRule, IsFirstRule}
-use Rattle.prd_reader.specs.Reading.{◌>>=◌, before, condition_at, guard_at, past_do, block_at, body_at, variables_at, rule_of, rule_at, past_kind, past_word}
+use Rattle.prd_reader.specs.Reading.{before, condition_at, guard_at, past_do, block_at, body_at, variables_at, rule_of, rule_at, past_kind, past_word}
 use Rattle.prd_reader.proofs.FrontLemmas.{bind_some, symbol_passed, word_passed}
-use Rattle.prd_reader.proofs.NameLemmas.{AreVars, variables_read, variables_again, places_are}
-use Rattle.prd_reader.proofs.FormulaLemmas.{IsConditionTree, condition_read, condition_again}
-use Rattle.prd_reader.proofs.ActionLemmas.{AreActionTrees, block_read, block_again}
+use Rattle.prd_reader.proofs.NameLemmas.{variables_read, variables_again, places_are}
+use Rattle.prd_reader.proofs.FormulaLemmas.{condition_read, condition_again}
+use Rattle.prd_reader.proofs.ActionLemmas.{block_read, block_again}
 
 take_exact : (a b : List Leaf) → take (length a) (a ++ b) ≡ a
 take_exact [] b = refl

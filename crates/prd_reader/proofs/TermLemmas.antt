@@ -1,7 +1,6 @@
 -- Terms and statements: what is read is spelled so, and what is spelled so is read.
-use Rattle.std.proofs.Common.{◌≡◌, ◌∙◌, sym, subst, ap, refl, ℕ, ◌+◌, ◌-◌, ◌^◌, ◌<◌, ◌&&◌, nat_lt, zero, suc, ℤ, pos, negsuc, Bool, true, false, cond, List, [], ◌∷◌, ◌++◌, append_assoc, Option, Some, None, drop, length, arith, ◌⊎◌, inl, inr}
+use Rattle.std.proofs.Common.{◌≡◌, ◌∙◌, sym, subst, ap, refl, ℕ, true, List, [], ◌∷◌, ◌++◌, append_assoc, Some, drop, inl, inr}
 use Rattle.std.specs.Prelude.{codes, bytes_eq}
-use Rattle.std.specs.Fmt.{signed_decimal}
 use Rattle.std.proofs.lemmas.Option.{cond_some, some_pair_parts}
 use Rattle.rif_terms.specs.declared.constant.Const.{Const}
 use Rattle.rif_terms.specs.declared.tree.Term.{Term}
@@ -10,9 +9,9 @@ use Rattle.rif_lex.specs.declared.token.Kind.TheVariants.{OpenSquare, CloseSquar
 use Rattle.prd_reader.specs.declared.statement.Statement.{Statement}
 use Rattle.prd_reader.specs.declared.statement.Statement.TheVariants.{Member, Frame}
 use Rattle.prd_reader.specs.Leaves.{Leaf, word, curie, local, var, int, str, iri, mark}
-use Rattle.prd_reader.specs.Trees.{ConstTree, const_int, const_string, const_local, const_true, const_false, spell_const, TermTree, constant, variable, spell_term, PairTrees, last_pair, spell_pairs, Tail, member_of, with_pairs, spell_tail}
+use Rattle.prd_reader.specs.Trees.{ConstTree, const_int, const_string, const_local, const_true, const_false, spell_const, TermTree, constant, variable, spell_term, last_pair, spell_pairs, Tail, member_of, with_pairs, spell_tail}
 use Rattle.prd_reader.specs.Values.{has_name, place_of, const_value, term_value}
-use Rattle.prd_reader.specs.FirstForm.{IsInteger, FitsConst, FitsTerm, FitsTail}
+use Rattle.prd_reader.specs.FirstForm.{FitsConst, FitsTerm, FitsTail}
 use Rattle.prd_reader.specs.Reading.{◌>>=◌, first_leaf, truth_of, integer_of, const_from, var_from, term_from, term_at, member_at, frame_at, statement_at, begins_kind, past_kind}
 use Rattle.prd_reader.proofs.FrontLemmas.{bind_some, chosen, same_text, symbol_passed, begins_symbol}
 use Rattle.prd_reader.proofs.NumberLemmas.{integer_read, integer_again}

@@ -1,6 +1,6 @@
 -- Documents of the first form: what is asked of a tree beside its spelling, and of the bytes.
 -- Source: the project's own (docs/FORMATS.md, "The first form").
-use Rattle.std.specs.Prelude.{◌≡◌, ◌≤◌, ◌≤ℤ◌, ℕ, ◌+◌, ◌-◌, ◌==◌, ◌||◌, ◌&&◌, ◌++◌, ℤ, Bool, true, false, List, [], ◌∷◌, length, take, drop, bytes_eq, suc, if◌then◌else◌}
+use Rattle.std.specs.Prelude.{◌≡◌, ◌≤◌, ◌≤ℤ◌, ℕ, ◌-◌, ◌==◌, ◌||◌, ◌&&◌, ◌++◌, ℤ, Bool, true, false, List, [], ◌∷◌, length, take, drop, bytes_eq, suc}
 use Rattle.std.specs.Char.{is_ascii}
 use Rattle.std.specs.List.{list_all, list_any}
 use Rattle.rif_terms.specs.declared.integer.TheConstants.{LEAST_INTEGER, GREATEST_INTEGER}
@@ -11,7 +11,7 @@ use Rattle.rif_terms.specs.declared.fault.Fault.TheVariants.{Refused, OutOfMemor
 use Rattle.rif_terms.specs.declared.rule.Doc.{Doc}
 use Rattle.rif_lex.specs.declared.token.Token.{Token}
 use Rattle.prd_reader.specs.Leaves.{Leaf, word, curie, local, var, int, str, iri, mark, leaves_of}
-use Rattle.prd_reader.specs.Trees.{ConstTree, const_int, const_string, const_local, const_true, const_false, TermTree, constant, variable, PairTrees, last_pair, Tail, member_of, with_pairs, FormulaTree, conj, compared, FormulaTrees, no_formulas, formulas, spell_formula, TargetTree, target_member, target_frame, ActionTree, assert, retract, ActionTrees, last_action, actions, RuleTree, for_all, if_then, MemberTrees, no_members, rule_member, GroupTree, group, DocumentTree, no_group, one_group, spell_document}
+use Rattle.prd_reader.specs.Trees.{ConstTree, const_int, const_string, const_local, const_true, const_false, TermTree, constant, variable, PairTrees, last_pair, Tail, member_of, with_pairs, FormulaTree, conj, compared, FormulaTrees, no_formulas, formulas, spell_formula, TargetTree, target_member, target_frame, ActionTree, assert, retract, ActionTrees, last_action, actions, RuleTree, for_all, if_then, MemberTrees, no_members, rule_member, group, DocumentTree, no_group, one_group, spell_document}
 use Rattle.prd_reader.specs.Values.{has_name, names_in, document_value}
 
 -- an integer of documents

@@ -6,7 +6,7 @@
 -- Source: the project's own (docs/FORMATS.md, "Tokens").
 use Rattle.std.specs.Prelude.{ℕ, ◌-◌, ◌==◌, Bool, true, false, List, [], ◌∷◌, take, drop, length, map, if◌then◌else◌}
 use Rattle.rif_lex.specs.declared.token.Kind.{Kind}
-use Rattle.rif_lex.specs.declared.token.Kind.TheVariants.{Word, Curie, Local, Var, Int, Str, Iri, Open, Close, OpenSquare, CloseSquare, Equal, Hash, HashHash, Arrow, Carets}
+use Rattle.rif_lex.specs.declared.token.Kind.TheVariants.{Word, Curie, Local, Var, Int, Str, Iri}
 use Rattle.rif_lex.specs.declared.token.Token.{Token}
 
 -- A name has no sign in front, an IRI no brackets, and a string is the text that it stands for.

@@ -1,6 +1,6 @@
 -- The document that a tree stands for. In it a variable is its place in its rule's names.
 -- Source: the project's own (docs/FORMATS.md, "The document's tree").
-use Rattle.std.specs.Prelude.{◌≡◌, ℕ, ℤ, pos, Bool, true, false, ◌||◌, if◌then◌else◌, List, [], ◌∷◌, ◌++◌, Option, Some, None, bytes_eq, suc, zero}
+use Rattle.std.specs.Prelude.{ℕ, pos, Bool, true, false, if◌then◌else◌, List, [], ◌∷◌, ◌++◌, Some, bytes_eq, suc}
 use Rattle.std.specs.List.{list_any}
 use Rattle.rif_terms.specs.declared.constant.Const.{Const}
 use Rattle.rif_terms.specs.declared.constant.Const.TheVariants.{Int, Bool as BoolConst, Str, Local}

@@ -1,7 +1,7 @@
-use Rattle.std.proofs.Common.{◌≡◌, ◌∙◌, ◌-◌, ◌+◌, sym, ap, subst, suc, arith}
+use Rattle.std.proofs.Common.{◌≡◌, ◌∙◌, ◌-◌, ◌+◌, sym, suc, arith}
 use Rattle.std.proofs.lemmas.Result.{err_from_is_err_and}
 use Rattle.prd_reader.specs.Reading.{seen}
-use Rattle.prd_reader.proofs.LeavesLemmas.{refused, refuses_as}
+use Rattle.prd_reader.proofs.LeavesLemmas.{refuses_as}
 use Rattle.prd_reader.proofs.ListLemmas.{actions_more, actions_end, actions_out, actions_refused}
 use Rattle.prd_reader.proofs.action.read_actions.Goals as goal
 

@@ -1,7 +1,7 @@
-use Rattle.std.proofs.Common.{◌≡◌, ◌∙◌, ◌-◌, ◌+◌, sym, ap, subst, suc, arith}
+use Rattle.std.proofs.Common.{◌≡◌, ◌∙◌, ◌-◌, ◌+◌, sym, suc, arith}
 use Rattle.std.proofs.lemmas.Result.{err_from_is_err_and}
 use Rattle.prd_reader.specs.Reading.{seen}
-use Rattle.prd_reader.proofs.LeavesLemmas.{refused, refuses_as}
+use Rattle.prd_reader.proofs.LeavesLemmas.{refuses_as}
 use Rattle.prd_reader.proofs.ListLemmas.{patterns_more, patterns_end, patterns_out, patterns_refused}
 use Rattle.prd_reader.proofs.condition.read_patterns.Goals as goal
 

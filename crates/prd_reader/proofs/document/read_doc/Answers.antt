@@ -1,5 +1,4 @@
-use Rattle.std.proofs.Common.{◌≡◌, sym, ◌∙◌, subst, ap, true, List}
-use Rattle.rif_lex.specs.declared.token.Token.{Token}
+use Rattle.std.proofs.Common.{sym, ◌∙◌, subst, ap, List}
 use Rattle.prd_reader.specs.FirstForm.{are_spaced_from}
 use Rattle.prd_reader.specs.Leaves.{Leaf, leaves_of}
 use Rattle.prd_reader.specs.Reading.{Gives, rules_at}

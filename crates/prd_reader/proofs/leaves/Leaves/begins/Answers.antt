@@ -1,4 +1,4 @@
-use Rattle.std.proofs.Common.{◌≡◌, sym, ap, ◌∙◌}
+use Rattle.std.proofs.Common.{sym, ap, ◌∙◌}
 use Rattle.prd_reader.specs.Reading.{is_kind, same_kind}
 use Rattle.prd_reader.proofs.LeavesLemmas.{kind_of-leaf_from}
 use Rattle.prd_reader.proofs.leaves.Leaves.begins.Goals as goal
