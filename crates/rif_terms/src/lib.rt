@@ -55,3 +55,6 @@ pub use sets::{find_in_set, sorted_set};
 pub use text::Text;
 pub use tree::{Formula, Level, Term};
 pub use writing::{push_const, push_fact, write_const, write_fact};
+
+#[cfg(test)]
+mod tests;

@@ -36,19 +36,3 @@ pub fn find_in_set<K: Ord>(set: &[K], item: &K) -> Result<usize, usize>
 {
     set.binary_search(item)
 }
-
-#[cfg(test)]
-mod tests {
-    use super::*;
-    use std::test::Fail;
-
-    #[test]
-    fn items_in_order_each_once(rt: HostRuntime) -> Result<(), Fail> {
-        let items = Vec::from_slice(rt.alloc(), [3_u64, 1, 4, 1, 5, 9, 2, 6, 5, 3, 5].as_slice())?;
-        assert_eq!(rt;
-            sorted_set(rt.alloc(), items)?.as_slice(),
-            [1, 2, 3, 4, 5, 6, 9].as_slice()
-        );
-        Ok(())
-    }
-}
