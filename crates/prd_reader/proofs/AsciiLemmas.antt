@@ -27,9 +27,12 @@ escape_ascii b low = elim (b == 110) as (λ v. cond v 10 (cond (b == 116) 9 (con
 unescaped_from_ascii : (escape : Bool) (bs : List ℕ) → IsAscii bs → IsAscii (unescaped_from escape bs)
 unescaped_from_ascii escape [] ascii = IsAscii-nil
 unescaped_from_ascii true (b ∷ bs) ascii =
-    IsAscii-cons (escape_of b) (unescaped_from false bs) (escape_ascii b (first_ascii b bs ascii)) (unescaped_from_ascii false bs (rest_ascii b bs ascii))
+    IsAscii-cons (escape_of b) (unescaped_from false bs) (escape_ascii b (first_ascii b bs ascii))
+    (unescaped_from_ascii false bs (rest_ascii b bs ascii))
 unescaped_from_ascii false (b ∷ bs) ascii =
-    let here = IsAscii-cons b (unescaped_from false bs) (first_ascii b bs ascii) (unescaped_from_ascii false bs (rest_ascii b bs ascii)) in
+    let here =
+    IsAscii-cons b (unescaped_from false bs) (first_ascii b bs ascii)
+    (unescaped_from_ascii false bs (rest_ascii b bs ascii)) in
     let behind = unescaped_from_ascii true bs (rest_ascii b bs ascii) in
     elim (b == 92) as (λ v. IsAscii (cond v (unescaped_from true bs) (b ∷ unescaped_from false bs))) [ true ↦ behind | false ↦ here ]
 

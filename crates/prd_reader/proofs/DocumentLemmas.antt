@@ -17,7 +17,8 @@ use Rattle.prd_reader.specs.Leaves.{Leaf, word, mark, leaves_of}
 use Rattle.prd_reader.specs.Trees.{RuleTree, for_all, if_then, spell_rule, MemberTrees, no_members, rule_member, spell_members, group, spell_group, DocumentTree, no_group, one_group, spell_document}
 use Rattle.prd_reader.specs.Values.{members_value, document_value}
 use Rattle.prd_reader.specs.FirstForm.{AreFirstMembers, IsFirstTree, are_spaced_from, IsFirstForm, RefusesFirstForm, OneDocument}
-use Rattle.prd_reader.specs.Reading.{Gives, rule_at, members_at, in_group, group_at, document_at, rules_at, alone, begins_kind, begins_word, past_kind, past_word}
+use Rattle.prd_reader.specs.Reading.{Gives, alone, begins_kind, begins_word, past_kind, past_word}
+use Rattle.prd_reader.specs.RuleReading.{rule_at, members_at, in_group, group_at, document_at, rules_at}
 use Rattle.prd_reader.proofs.FrontLemmas.{bind_some, chosen, symbol_passed, word_passed, begins_with_word}
 use Rattle.prd_reader.proofs.RuleLemmas.{rule_read, rule_again}
 
@@ -27,7 +28,8 @@ record AreMembers (ls : List Leaf) (rules : List Rule) (rest : List Leaf) : Type
   first : AreFirstMembers trees
   value : members_value trees ≡ rules
 
-members_read : (ls : List Leaf) (rules : List Rule) (rest : List Leaf) → members_at ls ≡ Some (rules, mark Close ∷ rest) → AreMembers ls rules rest
+members_read : (ls : List Leaf) (rules : List Rule) (rest : List Leaf)
+    → members_at ls ≡ Some (rules, mark Close ∷ rest) → AreMembers ls rules rest
 unfolding members_at
 members_read ls rules rest given = elim (chosen (begins_kind Close ls) _ _ _ given) [
   | inl none ↦
@@ -39,7 +41,9 @@ members_read ls rules rest given = elim (chosen (begins_kind Close ls) _ _ _ giv
       let made = rule_read ls one.0.0 one.0.1 one.1 in
       record {
         trees = rule_member made.tree no_members;
-        spelled = made.spelled ∙ (ap (λ (xs : List Leaf). spell_rule made.tree ++ xs) parts.1 ∙ sym (append_assoc (spell_rule made.tree) (mark Close ∷ []) rest));
+        spelled =
+            made.spelled ∙ (ap (λ (xs : List Leaf). spell_rule made.tree ++ xs) parts.1
+            ∙ sym (append_assoc (spell_rule made.tree) (mark Close ∷ []) rest));
         first = made.first;
         value = ap (λ (r : Rule). r ∷ []) made.value ∙ parts.0;
       }
@@ -49,11 +53,16 @@ rule_no_close : (r : RuleTree) (rest : List Leaf) → begins_kind Close (spell_r
 rule_no_close (for_all vs r) rest = refl
 rule_no_close (if_then f as_) rest = refl
 
-members_again : (ms : MemberTrees) (rest : List Leaf) → AreFirstMembers ms → members_at (spell_members ms ++ rest) ≡ Some (members_value ms, mark Close ∷ rest)
+members_again : (ms : MemberTrees) (rest : List Leaf) → AreFirstMembers ms
+    → members_at (spell_members ms ++ rest) ≡ Some (members_value ms, mark Close ∷ rest)
 unfolding members_at
 members_again no_members rest first = refl
 members_again (rule_member r no_members) rest first =
-    rw (append_assoc (spell_rule r) (mark Close ∷ []) rest, rule_no_close r (mark Close ∷ rest), rule_again r (mark Close ∷ rest) first) refl
+    rw (
+      append_assoc (spell_rule r) (mark Close ∷ []) rest,
+      rule_no_close r (mark Close ∷ rest),
+      rule_again r (mark Close ∷ rest) first,
+    ) refl
 members_again (rule_member r (rule_member q ms)) rest first = absurd first
 
 record IsGroup (ls : List Leaf) (rules : List Rule) (rest : List Leaf) : Type 0 where
@@ -62,18 +71,22 @@ record IsGroup (ls : List Leaf) (rules : List Rule) (rest : List Leaf) : Type 0 
   first : AreFirstMembers tree
   value : members_value tree ≡ rules
 
-in_group_read : (ls : List Leaf) (rules : List Rule) (rest : List Leaf) → in_group ls ≡ Some (rules, rest) → IsGroup (word (codes "Group") ∷ ls) rules rest
+in_group_read : (ls : List Leaf) (rules : List Rule) (rest : List Leaf) → in_group ls ≡ Some (rules, rest)
+    → IsGroup (word (codes "Group") ∷ ls) rules rest
 unfolding in_group
 in_group_read ls rules rest given =
     let inside = bind_some (past_kind Open ls) _ (rules, rest) given in
     let found = bind_some (members_at inside.0) _ (rules, rest) inside.2 in
     let end = bind_some (past_kind Close found.0.1) _ (rules, rest) found.2 in
     let parts = some_pair_parts found.0.0 rules end.0 rest end.2 in
-    let tail : found.0.1 ≡ mark Close ∷ rest = symbol_passed Close found.0.1 end.0 refl end.1 ∙ ap (λ (xs : List Leaf). mark Close ∷ xs) parts.1 in
+    let tail : found.0.1 ≡ mark Close ∷ rest =
+    symbol_passed Close found.0.1 end.0 refl end.1 ∙ ap (λ (xs : List Leaf). mark Close ∷ xs) parts.1 in
     let made = members_read inside.0 found.0.0 rest (found.1 ∙ ap (λ (x : List Leaf). Some (found.0.0, x)) tail) in
     record {
       tree = made.trees;
-      spelled = ap (λ (xs : List Leaf). word (codes "Group") ∷ xs) (symbol_passed Open ls inside.0 refl inside.1 ∙ ap (λ (xs : List Leaf). mark Open ∷ xs) made.spelled);
+      spelled =
+          ap (λ (xs : List Leaf). word (codes "Group") ∷ xs)
+          (symbol_passed Open ls inside.0 refl inside.1 ∙ ap (λ (xs : List Leaf). mark Open ∷ xs) made.spelled);
       first = made.first;
       value = made.value ∙ parts.0;
     }
@@ -85,7 +98,8 @@ IsGroupOrNone ls rules rest = ((rules ≡ []) × (ls ≡ rest)) ⊎ IsGroup ls r
 group_read : (ls : List Leaf) (rules : List Rule) (rest : List Leaf) → group_at ls ≡ Some (rules, rest) → IsGroupOrNone ls rules rest
 unfolding group_at
 group_read ls rules rest given = elim (chosen (begins_word (codes "Group") ls) _ _ _ given) [
-  | inl here ↦ inr (subst (λ (xs : List Leaf). IsGroup xs rules rest) (sym (begins_with_word (codes "Group") ls here.0)) (in_group_read (drop 1 ls) rules rest here.1))
+  | inl here ↦ inr (subst (λ (xs : List Leaf). IsGroup xs rules rest)
+      (sym (begins_with_word (codes "Group") ls here.0)) (in_group_read (drop 1 ls) rules rest here.1))
   | inr none ↦ let parts = some_pair_parts [] rules ls rest none.1 in inl (sym parts.0, parts.1)
 ]
 
@@ -95,7 +109,9 @@ pub record IsDocumentTree (ls : List Leaf) (rules : List Rule) : Type 0 where
   pub first : IsFirstTree tree
   pub value : document_value tree ≡ record { rules = rules }
 
-document_made : (ls : List Leaf) (rules : List Rule) (inside : List Leaf) → ls ≡ word (codes "Document") ∷ mark Open ∷ inside → IsGroupOrNone inside rules (mark Close ∷ []) → IsDocumentTree ls rules
+document_made : (ls : List Leaf) (rules : List Rule) (inside : List Leaf)
+    → ls ≡ word (codes "Document") ∷ mark Open ∷ inside → IsGroupOrNone inside rules (mark Close ∷ [])
+    → IsDocumentTree ls rules
 document_made ls rules inside front (inl none) = record {
   tree = no_group;
   spelled = sym (front ∙ ap (λ (xs : List Leaf). word (codes "Document") ∷ mark Open ∷ xs) none.1);
@@ -126,8 +142,10 @@ rules_read ls rules given =
     let end = bind_some (past_kind Close found.0.1) _ all.0 found.2 in
     let parts = some_pair_parts found.0.0 all.0.0 end.0 all.0.1 end.2 in
     let front : ls ≡ word (codes "Document") ∷ mark Open ∷ inside.0 =
-    word_passed (codes "Document") ls behind.0 behind.1 ∙ ap (λ (xs : List Leaf). word (codes "Document") ∷ xs) (symbol_passed Open behind.0 inside.0 refl inside.1) in
-    let tail : found.0.1 ≡ mark Close ∷ [] = symbol_passed Close found.0.1 end.0 refl end.1 ∙ ap (λ (xs : List Leaf). mark Close ∷ xs) (parts.1 ∙ empty) in
+    word_passed (codes "Document") ls behind.0 behind.1
+    ∙ ap (λ (xs : List Leaf). word (codes "Document") ∷ xs) (symbol_passed Open behind.0 inside.0 refl inside.1) in
+    let tail : found.0.1 ≡ mark Close ∷ [] =
+    symbol_passed Close found.0.1 end.0 refl end.1 ∙ ap (λ (xs : List Leaf). mark Close ∷ xs) (parts.1 ∙ empty) in
     let made = group_read inside.0 found.0.0 (mark Close ∷ []) (found.1 ∙ ap (λ (x : List Leaf). Some (found.0.0, x)) tail) in
     subst (λ (rs : List Rule). IsDocumentTree ls rs) (parts.0 ∙ same) (document_made ls found.0.0 inside.0 front made)
 
@@ -140,17 +158,20 @@ same_some : {A : Type 0} (a b : A) → Some a ≡ Some b → a ≡ b
 same_some a b same = cc
 
 -- the rules of a document of the first form are those that are read
-form_rules : (tokens : List Token) (bytes : List ℕ) (doc : Doc) → IsFirstForm tokens bytes doc → rules_at (leaves_of bytes tokens) ≡ Some doc.rules
+form_rules : (tokens : List Token) (bytes : List ℕ) (doc : Doc) → IsFirstForm tokens bytes doc
+    → rules_at (leaves_of bytes tokens) ≡ Some doc.rules
 form_rules tokens bytes doc form =
     sym (ap rules_at form.spelled) ∙ (rules_again form.tree form.first ∙ ap (λ (d : Doc). Some d.rules) form.value)
 
 pub one_document : OneDocument
 one_document tokens bytes a b first second =
-    let same : a.rules ≡ b.rules = same_some a.rules b.rules (sym (form_rules tokens bytes a first) ∙ form_rules tokens bytes b second) in
+    let same : a.rules ≡ b.rules =
+    same_some a.rules b.rules (sym (form_rules tokens bytes a first) ∙ form_rules tokens bytes b second) in
     ap (λ (rs : List Rule). record { rules = rs }) same
 
 -- what is read is of the first form, and what isn't read is not
-pub form_read : (tokens : List Token) (bytes : List ℕ) (r : Result Doc Fault) → Gives (λ doc. doc.rules) r (rules_at (leaves_of bytes tokens)) →
+pub form_read : (tokens : List Token) (bytes : List ℕ) (r : Result Doc Fault)
+    → Gives (λ doc. doc.rules) r (rules_at (leaves_of bytes tokens)) →
     list_all is_ascii bytes ≡ true → are_spaced_from 0 bytes tokens ≡ true → IfOk r (IsFirstForm tokens bytes)
 form_read tokens bytes (Ok doc) gives ascii spaced =
     let made = rules_read (leaves_of bytes tokens) doc.rules gives in
@@ -160,7 +181,8 @@ form_read tokens bytes (Err fault) gives ascii spaced = tt
 none_some : {A : Type 0} (o : Option A) (x : A) → o ≡ None → o ≡ Some x → ⊥
 none_some o x none some_ = cc
 
-pub form_refused : (tokens : List Token) (bytes : List ℕ) (r : Result Doc Fault) → Gives (λ doc. doc.rules) r (rules_at (leaves_of bytes tokens)) → IfErr r (RefusesFirstForm tokens bytes)
+pub form_refused : (tokens : List Token) (bytes : List ℕ) (r : Result Doc Fault)
+    → Gives (λ doc. doc.rules) r (rules_at (leaves_of bytes tokens)) → IfErr r (RefusesFirstForm tokens bytes)
 form_refused tokens bytes (Ok doc) gives = tt
 form_refused tokens bytes (Err OutOfMemory) gives = tt
 form_refused tokens bytes (Err (Refused refusal)) gives =
@@ -169,10 +191,12 @@ form_refused tokens bytes (Err (Refused refusal)) gives =
 false_true : (b : Bool) → b ≡ false → b ≡ true → ⊥
 false_true b no_ yes_ = cc
 
-pub not_ascii : (tokens : List Token) (bytes : List ℕ) (fault : Fault) → fault ≡ Refused (LeftOut 1 1) → list_all is_ascii bytes ≡ false → RefusesFirstForm tokens bytes fault
+pub not_ascii : (tokens : List Token) (bytes : List ℕ) (fault : Fault) → fault ≡ Refused (LeftOut 1 1)
+    → list_all is_ascii bytes ≡ false → RefusesFirstForm tokens bytes fault
 not_ascii tokens bytes fault is broken =
     subst (RefusesFirstForm tokens bytes) (sym is) (refl, λ doc form. false_true (list_all is_ascii bytes) broken form.ascii)
 
-pub not_spaced : (tokens : List Token) (bytes : List ℕ) (fault : Fault) → fault ≡ Refused (LeftOut 1 1) → are_spaced_from 0 bytes tokens ≡ false → RefusesFirstForm tokens bytes fault
+pub not_spaced : (tokens : List Token) (bytes : List ℕ) (fault : Fault) → fault ≡ Refused (LeftOut 1 1)
+    → are_spaced_from 0 bytes tokens ≡ false → RefusesFirstForm tokens bytes fault
 not_spaced tokens bytes fault is broken =
     subst (RefusesFirstForm tokens bytes) (sym is) (refl, λ doc form. false_true (are_spaced_from 0 bytes tokens) broken form.spaced)

@@ -10,11 +10,13 @@ use Rattle.prd_reader.specs.Leaves.{Leaf, word, mark}
 use Rattle.prd_reader.specs.Trees.{const_int, const_string, const_local, const_true, const_false, TermTree, constant, variable, spell_term, last_pair, Tail, member_of, with_pairs, spell_tail, FormulaTree, conj, compared, FormulaTrees, no_formulas, formulas, spell_formula, spell_formulas}
 use Rattle.prd_reader.specs.Values.{term_value, tail_value, formula_value, formulas_value}
 use Rattle.prd_reader.specs.FirstForm.{IsPattern, ArePatterns, formula_count, IsCondition}
-use Rattle.prd_reader.specs.Reading.{formula_of, statement_at, pattern_at, patterns_at, conjunction_at, condition_at, begins_kind, begins_word, past_kind}
+use Rattle.prd_reader.specs.Reading.{statement_at, begins_kind, begins_word, past_kind}
+use Rattle.prd_reader.specs.RuleReading.{formula_of, pattern_at, patterns_at, conjunction_at, condition_at}
 use Rattle.prd_reader.proofs.FrontLemmas.{bind_some, chosen, symbol_passed, begins_with_word}
 use Rattle.prd_reader.proofs.TermLemmas.{statement_value, statement_read, statement_again}
 
-formula_is : (names : List (List ℕ)) (t : TermTree) (tail : Tail) → tail_value names (term_value names t) tail ≡ formula_of (statement_value names t tail)
+formula_is : (names : List (List ℕ)) (t : TermTree) (tail : Tail)
+    → tail_value names (term_value names t) tail ≡ formula_of (statement_value names t tail)
 formula_is names t (member_of u) = refl
 formula_is names t (with_pairs (last_pair s v)) = refl
 
@@ -25,7 +27,8 @@ pub record IsPatternTree (names : List (List ℕ)) (ls : List Leaf) (f : Formula
   pub fits : IsPattern names tree
   pub value : formula_value names tree ≡ f
 
-pub pattern_read : (names : List (List ℕ)) (ls : List Leaf) (f : Formula) (rest : List Leaf) → pattern_at names ls ≡ Some (f, rest) → IsPatternTree names ls f rest
+pub pattern_read : (names : List (List ℕ)) (ls : List Leaf) (f : Formula) (rest : List Leaf)
+    → pattern_at names ls ≡ Some (f, rest) → IsPatternTree names ls f rest
 unfolding pattern_at
 pattern_read names ls f rest given =
     let step = bind_some (statement_at names ls) _ (f, rest) given in
@@ -38,13 +41,15 @@ pattern_read names ls f rest given =
       value = formula_is names found.term found.tail ∙ (ap formula_of found.value ∙ parts.0);
     }
 
-pub pattern_again : (names : List (List ℕ)) (f : FormulaTree) (rest : List Leaf) → IsPattern names f → pattern_at names (spell_formula f ++ rest) ≡ Some (formula_value names f, rest)
+pub pattern_again : (names : List (List ℕ)) (f : FormulaTree) (rest : List Leaf) → IsPattern names f
+    → pattern_at names (spell_formula f ++ rest) ≡ Some (formula_value names f, rest)
 unfolding pattern_at
 pattern_again names (conj fs) rest fits = absurd fits
 pattern_again names (compared t tail) rest fits = rw (statement_again names t tail rest fits.0 fits.1, formula_is names t tail) refl
 
 -- a pattern begins with a term, and so neither with a closing bracket nor with `And`
-not_close : (names : List (List ℕ)) (f : FormulaTree) (rest : List Leaf) → IsPattern names f → begins_kind Close (spell_formula f ++ rest) ≡ false
+not_close : (names : List (List ℕ)) (f : FormulaTree) (rest : List Leaf) → IsPattern names f
+    → begins_kind Close (spell_formula f ++ rest) ≡ false
 not_close names (conj fs) rest fits = absurd fits
 not_close names (compared (variable v) tail) rest fits = refl
 not_close names (compared (constant (const_int z)) tail) rest fits = refl
@@ -75,7 +80,8 @@ no_patterns names most ls fs rest given =
     let parts = some_pair_parts [] fs ls (mark Close ∷ rest) given in
     record { trees = no_formulas; spelled = parts.1; fit = tt; few = omega arith; value = parts.0 }
 
-pub patterns_read : (names : List (List ℕ)) (most : ℕ) (ls : List Leaf) (fs : List Formula) (rest : List Leaf) → patterns_at most names ls ≡ Some (fs, mark Close ∷ rest) →
+pub patterns_read : (names : List (List ℕ)) (most : ℕ) (ls : List Leaf) (fs : List Formula) (rest : List Leaf)
+    → patterns_at most names ls ≡ Some (fs, mark Close ∷ rest) →
     ArePatternTrees names most ls fs rest
 unfolding patterns_at
 patterns_read names zero ls fs rest given = no_patterns names zero ls fs rest given
@@ -89,14 +95,18 @@ patterns_read names (suc most) ls fs rest given = elim (chosen (begins_kind Clos
       let behind = patterns_read names most one.0.1 more.0.0 rest (more.1 ∙ ap (λ (x : List Leaf). Some (more.0.0, x)) parts.1) in
       record {
         trees = formulas first.tree behind.trees;
-        spelled = first.spelled ∙ (ap (λ (xs : List Leaf). spell_formula first.tree ++ xs) behind.spelled ∙ sym (append_assoc (spell_formula first.tree) (spell_formulas behind.trees) rest));
+        spelled =
+            first.spelled ∙ (ap (λ (xs : List Leaf). spell_formula first.tree ++ xs) behind.spelled
+            ∙ sym (append_assoc (spell_formula first.tree) (spell_formulas behind.trees) rest));
         fit = (first.fits, behind.fit);
         few = let few = behind.few in omega arith;
-        value = ap (λ (f : Formula). f ∷ formulas_value names behind.trees) first.value ∙ (ap (λ (gs : List Formula). one.0.0 ∷ gs) behind.value ∙ parts.0);
+        value = ap (λ (f : Formula). f ∷ formulas_value names behind.trees) first.value
+            ∙ (ap (λ (gs : List Formula). one.0.0 ∷ gs) behind.value ∙ parts.0);
       }
 ]
 
-pub patterns_again : (names : List (List ℕ)) (fs : FormulaTrees) (most : ℕ) (rest : List Leaf) → ArePatterns names fs → formula_count fs ≤ most →
+pub patterns_again : (names : List (List ℕ)) (fs : FormulaTrees) (most : ℕ) (rest : List Leaf) → ArePatterns names fs
+    → formula_count fs ≤ most →
     patterns_at most names (spell_formulas fs ++ rest) ≡ Some (formulas_value names fs, mark Close ∷ rest)
 unfolding patterns_at
 patterns_again names no_formulas zero rest fit few = refl
@@ -105,7 +115,12 @@ patterns_again names (formulas f fs) zero rest fit few = absurd (omega arith)
 patterns_again names (formulas f fs) (suc most) rest fit few =
     let fewer : formula_count fs ≤ most = omega arith in
     let more = patterns_again names fs most rest fit.1 fewer in
-    rw (append_assoc (spell_formula f) (spell_formulas fs) rest, not_close names f (spell_formulas fs ++ rest) fit.0, pattern_again names f (spell_formulas fs ++ rest) fit.0, more) refl
+    rw (
+      append_assoc (spell_formula f) (spell_formulas fs) rest,
+      not_close names f (spell_formulas fs ++ rest) fit.0,
+      pattern_again names f (spell_formulas fs ++ rest) fit.0,
+      more,
+    ) refl
 
 -- a condition that was read
 pub record IsConditionTree (names : List (List ℕ)) (ls : List Leaf) (f : Formula) (rest : List Leaf) : Type 0 where
@@ -114,12 +129,15 @@ pub record IsConditionTree (names : List (List ℕ)) (ls : List Leaf) (f : Formu
   pub fits : IsCondition names tree
   pub value : formula_value names tree ≡ f
 
-single : (names : List (List ℕ)) (ls : List Leaf) (f : Formula) (rest : List Leaf) (tree : FormulaTree) → ls ≡ spell_formula tree ++ rest → IsPattern names tree → formula_value names tree ≡ f →
+single : (names : List (List ℕ)) (ls : List Leaf) (f : Formula) (rest : List Leaf) (tree : FormulaTree)
+    → ls ≡ spell_formula tree ++ rest → IsPattern names tree → formula_value names tree ≡ f →
     IsConditionTree names ls f rest
 single names ls f rest (conj fs) spelled fits value = absurd fits
-single names ls f rest (compared t tail) spelled fits value = record { tree = compared t tail; spelled = spelled; fits = fits; value = value }
+single names ls f rest (compared t tail) spelled fits value =
+    record { tree = compared t tail; spelled = spelled; fits = fits; value = value }
 
-conjunction_read : (names : List (List ℕ)) (ls : List Leaf) (f : Formula) (rest : List Leaf) → conjunction_at MOST_PATTERNS names ls ≡ Some (f, rest) →
+conjunction_read : (names : List (List ℕ)) (ls : List Leaf) (f : Formula) (rest : List Leaf)
+    → conjunction_at MOST_PATTERNS names ls ≡ Some (f, rest) →
     IsConditionTree names (word (codes "And") ∷ ls) f rest
 unfolding conjunction_at
 conjunction_read names ls f rest given =
@@ -138,14 +156,17 @@ conjunction_read names ls f rest given =
       value = ap And found.value ∙ parts.0;
     }
 
-pub condition_read : (names : List (List ℕ)) (ls : List Leaf) (f : Formula) (rest : List Leaf) → condition_at MOST_PATTERNS names ls ≡ Some (f, rest) → IsConditionTree names ls f rest
+pub condition_read : (names : List (List ℕ)) (ls : List Leaf) (f : Formula) (rest : List Leaf)
+    → condition_at MOST_PATTERNS names ls ≡ Some (f, rest) → IsConditionTree names ls f rest
 unfolding condition_at
 condition_read names ls f rest given = elim (chosen (begins_word (codes "And") ls) _ _ _ given) [
-  | inl several ↦ subst (λ (xs : List Leaf). IsConditionTree names xs f rest) (sym (begins_with_word (codes "And") ls several.0)) (conjunction_read names (drop 1 ls) f rest several.1)
+  | inl several ↦ subst (λ (xs : List Leaf). IsConditionTree names xs f rest)
+      (sym (begins_with_word (codes "And") ls several.0)) (conjunction_read names (drop 1 ls) f rest several.1)
   | inr one ↦ let found = pattern_read names ls f rest one.1 in single names ls f rest found.tree found.spelled found.fits found.value
 ]
 
-pub condition_again : (names : List (List ℕ)) (f : FormulaTree) (rest : List Leaf) → IsCondition names f → condition_at MOST_PATTERNS names (spell_formula f ++ rest) ≡ Some (formula_value names f, rest)
+pub condition_again : (names : List (List ℕ)) (f : FormulaTree) (rest : List Leaf) → IsCondition names f
+    → condition_at MOST_PATTERNS names (spell_formula f ++ rest) ≡ Some (formula_value names f, rest)
 unfolding condition_at conjunction_at past_kind
 condition_again names (compared t tail) rest fits = rw (not_and t tail rest) (pattern_again names (compared t tail) rest fits)
 condition_again names (conj fs) rest fits = rw (patterns_again names fs MOST_PATTERNS rest fits.0 fits.1) refl

@@ -9,7 +9,8 @@ use Rattle.rif_lex.specs.contracts.token.Kind.{the_type}
 use Rattle.rif_lex.specs.declared.token.Kind.{Kind}
 use Rattle.rif_lex.specs.declared.token.Kind.TheVariants.{Word, Curie, Local, Var, Int, Str, Iri}
 use Rattle.prd_reader.specs.Leaves.{Leaf, word, curie, local, var, int, str, iri, mark}
-use Rattle.prd_reader.specs.Reading.{◌>>=◌, some_of, kind_of, same_kind, begins_kind, past_kind, begins_word, past_word}
+use Rattle.prd_reader.specs.Reading.{◌>>=◌, kind_of, same_kind, begins_kind, past_kind, begins_word, past_word}
+use Rattle.prd_reader.specs.RuleReading.{some_of}
 
 -- the parts of a step that gives something
 pub bind_some : {A B : Type 0} (o : Option A) (f : A → Option B) (y : B) → (o >>= f) ≡ Some y → (x : A) × (o ≡ Some x) × (f x ≡ Some y)

@@ -9,7 +9,8 @@ use Rattle.prd_reader.specs.Leaves.{Leaf, word, curie, local, var, int, str, iri
 use Rattle.prd_reader.specs.Trees.{Vars, one_var, more_vars, spell_vars}
 use Rattle.prd_reader.specs.Values.{has_name, place_of, places_in, names_in}
 use Rattle.prd_reader.specs.FirstForm.{AreNew}
-use Rattle.prd_reader.specs.Reading.{◌>>=◌, first_leaf, var_name, takes_name, names_with, names_at, variables_at, some_of}
+use Rattle.prd_reader.specs.Reading.{◌>>=◌, first_leaf, var_name}
+use Rattle.prd_reader.specs.RuleReading.{takes_name, names_with, names_at, variables_at, some_of}
 use Rattle.prd_reader.proofs.AsciiLemmas.{both}
 use Rattle.prd_reader.proofs.FrontLemmas.{bind_some, some_there, texts_same, not_true, neither}
 
@@ -28,7 +29,8 @@ pub names_step : (most : ℕ) (names : List (List ℕ)) (ls : List Leaf) (v : Li
     names_at most names ls ≡ (names_with most names v >>= λ more. names_at most more (drop 1 ls))
 unfolding names_at
 names_step most names [] v given = absurd (cc)
-names_step most names (var u ∷ ls) v given = let same : u ≡ v = cc in ap (λ (x : List ℕ). names_with most names x >>= λ more. names_at most more ls) same
+names_step most names (var u ∷ ls) v given =
+    let same : u ≡ v = cc in ap (λ (x : List ℕ). names_with most names x >>= λ more. names_at most more ls) same
 names_step most names (word t ∷ ls) v given = absurd (cc)
 names_step most names (curie t ∷ ls) v given = absurd (cc)
 names_step most names (local t ∷ ls) v given = absurd (cc)
@@ -38,7 +40,8 @@ names_step most names (iri t ∷ ls) v given = absurd (cc)
 names_step most names (mark k ∷ ls) v given = absurd (cc)
 
 -- all else ends them
-pub names_stop : (most : ℕ) (names : List (List ℕ)) (ls : List Leaf) → var_name (first_leaf ls) ≡ None → names_at most names ls ≡ Some (names, ls)
+pub names_stop : (most : ℕ) (names : List (List ℕ)) (ls : List Leaf) → var_name (first_leaf ls) ≡ None
+    → names_at most names ls ≡ Some (names, ls)
 unfolding names_at
 names_stop most names [] none = refl
 names_stop most names (var u ∷ ls) none = absurd (cc)
@@ -50,20 +53,26 @@ names_stop most names (str t ∷ ls) none = refl
 names_stop most names (iri t ∷ ls) none = refl
 names_stop most names (mark k ∷ ls) none = refl
 
-pub names_next : (most : ℕ) (names more : List (List ℕ)) (ls rest : List Leaf) (v : List ℕ) (all : Option (List (List ℕ) × List Leaf)) → names_at most names ls ≡ all →
+pub names_next : (most : ℕ) (names more : List (List ℕ)) (ls rest : List Leaf) (v : List ℕ)
+    (all : Option (List (List ℕ) × List Leaf)) → names_at most names ls ≡ all →
     Some v ≡ var_name (first_leaf ls) → names_with most names v ≡ Some more → rest ≡ drop 1 ls → names_at most more rest ≡ all
 names_next most names more ls rest v all before is with_ behind =
-    ap (names_at most more) behind ∙ (sym (names_step most names ls v (sym is) ∙ ap (λ (o : Option (List (List ℕ))). o >>= λ m. names_at most m (drop 1 ls)) with_) ∙ before)
+    ap (names_at most more) behind ∙ (sym (names_step most names ls v (sym is)
+    ∙ ap (λ (o : Option (List (List ℕ))). o >>= λ m. names_at most m (drop 1 ls)) with_) ∙ before)
 
-pub names_refused : (most : ℕ) (names : List (List ℕ)) (ls : List Leaf) (v : List ℕ) (all : Option (List (List ℕ) × List Leaf)) → names_at most names ls ≡ all →
+pub names_refused : (most : ℕ) (names : List (List ℕ)) (ls : List Leaf) (v : List ℕ)
+    (all : Option (List (List ℕ) × List Leaf)) → names_at most names ls ≡ all →
     Some v ≡ var_name (first_leaf ls) → names_with most names v ≡ None → all ≡ None
 names_refused most names ls v all before is none =
-    sym before ∙ (names_step most names ls v (sym is) ∙ ap (λ (o : Option (List (List ℕ))). o >>= λ m. names_at most m (drop 1 ls)) none)
+    sym before ∙ (names_step most names ls v (sym is)
+    ∙ ap (λ (o : Option (List (List ℕ))). o >>= λ m. names_at most m (drop 1 ls)) none)
 
-pub names_taken : (most : ℕ) (names more : List (List ℕ)) (v : List ℕ) (b : Bool) → b ≡ takes_name most names v → b ≡ true → more ≡ names ++ v ∷ [] → names_with most names v ≡ Some more
+pub names_taken : (most : ℕ) (names more : List (List ℕ)) (v : List ℕ) (b : Bool) → b ≡ takes_name most names v
+    → b ≡ true → more ≡ names ++ v ∷ [] → names_with most names v ≡ Some more
 names_taken most names more v b is true_ behind = rw (sym is ∙ true_, behind) refl
 
-pub names_not_taken : (most : ℕ) (names : List (List ℕ)) (v : List ℕ) (b : Bool) → b ≡ takes_name most names v → b ≡ false → names_with most names v ≡ None
+pub names_not_taken : (most : ℕ) (names : List (List ℕ)) (v : List ℕ) (b : Bool) → b ≡ takes_name most names v
+    → b ≡ false → names_with most names v ≡ None
 names_not_taken most names v b is false_ = rw (sym is ∙ false_) refl
 
 -- the leaves of some variables
@@ -83,14 +92,22 @@ no_names : (most : ℕ) (names : List (List ℕ)) (ls : List Leaf) (found : List
     ◌≡◌ {A = Option (List (List ℕ) × List Leaf)} (Some (names, ls)) (Some (found, rest)) → AreNameLeaves most names ls found rest
 no_names most names ls found rest given =
     let parts = some_pair_parts names found ls rest given in
-    record { more = []; spelled = parts.1; new = tt; few = λ low. subst (λ (ns : List (List ℕ)). length ns ≤ most) parts.0 low; value = append-nil names ∙ parts.0 }
+    record {
+      more = [];
+      spelled = parts.1;
+      new = tt;
+      few = λ low. subst (λ (ns : List (List ℕ)). length ns ≤ most) parts.0 low;
+      value = append-nil names ∙ parts.0;
+    }
 
-takes_parts : (most : ℕ) (names : List (List ℕ)) (v : List ℕ) → takes_name most names v ≡ true → (length names < most) × (has_name names v ≡ false)
+takes_parts : (most : ℕ) (names : List (List ℕ)) (v : List ℕ) → takes_name most names v ≡ true
+    → (length names < most) × (has_name names v ≡ false)
 takes_parts most names v takes =
     let parts = both (nat_lt (length names) most) (not (has_name names v)) takes in
     (grind (arith, nat_tests), not_true (has_name names v) parts.1)
 
-pub names_read : (most : ℕ) (names : List (List ℕ)) (ls : List Leaf) (found : List (List ℕ)) (rest : List Leaf) → names_at most names ls ≡ Some (found, rest) → AreNameLeaves most names ls found rest
+pub names_read : (most : ℕ) (names : List (List ℕ)) (ls : List Leaf) (found : List (List ℕ)) (rest : List Leaf)
+    → names_at most names ls ≡ Some (found, rest) → AreNameLeaves most names ls found rest
 unfolding names_at
 names_read most names [] found rest given = no_names most names [] found rest given
 names_read most names (var v ∷ ls) found rest given =
@@ -98,7 +115,8 @@ names_read most names (var v ∷ ls) found rest given =
     let test = cond_some (takes_name most names v) (names ++ v ∷ []) step.0 step.1 in
     let room = takes_parts most names v test.0 in
     let behind = names_read most step.0 ls found rest step.2 in
-    let size : length step.0 ≤ most = (let l = length-append names (v ∷ []) in subst (λ (ns : List (List ℕ)). length ns ≤ most) test.1 (omega arith)) in
+    let size : length step.0 ≤ most =
+    (let l = length-append names (v ∷ []) in subst (λ (ns : List (List ℕ)). length ns ≤ most) test.1 (omega arith)) in
     record {
       more = v ∷ behind.more;
       spelled = ap (λ (xs : List Leaf). var v ∷ xs) behind.spelled;
@@ -114,7 +132,8 @@ names_read most names (str t ∷ ls) found rest given = no_names most names (str
 names_read most names (iri t ∷ ls) found rest given = no_names most names (iri t ∷ ls) found rest given
 names_read most names (mark k ∷ ls) found rest given = no_names most names (mark k ∷ ls) found rest given
 
-takes_from : (most : ℕ) (names : List (List ℕ)) (v : List ℕ) → length names < most → has_name names v ≡ false → takes_name most names v ≡ true
+takes_from : (most : ℕ) (names : List (List ℕ)) (v : List ℕ) → length names < most → has_name names v ≡ false
+    → takes_name most names v ≡ true
 takes_from most names v low new = let first : nat_lt (length names) most ≡ true = grind (arith, nat_tests) in rw (first, new) refl
 
 names_again : (most : ℕ) (names vs : List (List ℕ)) (k : Kind) (rest : List Leaf) → AreNew names vs → length (names ++ vs) ≤ most →
@@ -154,7 +173,8 @@ pub record AreVars (most : ℕ) (ls : List Leaf) (names : List (List ℕ)) (rest
   pub few : length names ≤ most
   pub value : names_in vars ≡ names
 
-some_names : (most : ℕ) (ls : List Leaf) (vs : List (List ℕ)) (rest : List Leaf) → ls ≡ var_leaves vs ++ rest → AreNew [] vs → length vs ≤ most → (vs ≡ [] → ⊥) → AreVars most ls vs rest
+some_names : (most : ℕ) (ls : List Leaf) (vs : List (List ℕ)) (rest : List Leaf) → ls ≡ var_leaves vs ++ rest
+    → AreNew [] vs → length vs ≤ most → (vs ≡ [] → ⊥) → AreVars most ls vs rest
 some_names most ls [] rest spelled new few some_ = absurd (some_ refl)
 some_names most ls (v ∷ vs) rest spelled new few some_ = record {
   vars = vars_of v vs;
@@ -164,7 +184,8 @@ some_names most ls (v ∷ vs) rest spelled new few some_ = record {
   value = names_in_of v vs;
 }
 
-pub variables_read : (most : ℕ) (ls : List Leaf) (names : List (List ℕ)) (rest : List Leaf) → variables_at most ls ≡ Some (names, rest) → AreVars most ls names rest
+pub variables_read : (most : ℕ) (ls : List Leaf) (names : List (List ℕ)) (rest : List Leaf)
+    → variables_at most ls ≡ Some (names, rest) → AreVars most ls names rest
 unfolding variables_at
 variables_read most ls names rest given =
     let step = bind_some (names_at most [] ls) _ (names, rest) given in
@@ -175,7 +196,8 @@ variables_read most ls names rest given =
     let all : found.more ≡ step.0.0 = found.value in
     let few : length found.more ≤ most = subst (λ (ns : List (List ℕ)). length ns ≤ most) (sym all) (found.few (omega arith)) in
     let made = some_names most ls found.more step.0.1 found.spelled found.new few (λ none. some_.0 (sym all ∙ none)) in
-    subst (λ (ns : List (List ℕ)). AreVars most ls ns rest) (all ∙ same) (subst (λ (xs : List Leaf). AreVars most ls found.more xs) last made)
+    subst (λ (ns : List (List ℕ)). AreVars most ls ns rest) (all ∙ same)
+    (subst (λ (xs : List Leaf). AreVars most ls found.more xs) last made)
 
 some_vars : {B : Type 0} (vs : Vars) (b : B) → some_of (names_in vs) b ≡ Some b
 some_vars (one_var v) b = refl
@@ -194,14 +216,16 @@ place_behind (n ∷ before) vs v new =
     let parts = neither (bytes_eq n v) (has_name before v) new in
     rw parts.0 (ap suc (place_behind before vs v parts.1))
 
-places_behind : (all before vs : List (List ℕ)) → all ≡ before ++ vs → AreNew before vs → places_in all vs ≡ range_with_len (length before) (length vs)
+places_behind : (all before vs : List (List ℕ)) → all ≡ before ++ vs → AreNew before vs
+    → places_in all vs ≡ range_with_len (length before) (length vs)
 places_behind all before [] is new = refl
 places_behind all before (v ∷ vs) is new =
     let here : place_of all v ≡ length before = ap (λ (ns : List (List ℕ)). place_of ns v) is ∙ place_behind before vs v new.0 in
     let shift : all ≡ (before ++ v ∷ []) ++ vs = is ∙ sym (append_assoc before (v ∷ []) vs) in
     let more = places_behind all (before ++ v ∷ []) vs shift new.1 in
     let size : length (before ++ v ∷ []) ≡ length before + 1 = length-append before (v ∷ []) in
-    ap (λ (k : ℕ). k ∷ places_in all vs) here ∙ ap (λ (ks : List ℕ). length before ∷ ks) (more ∙ ap (λ (k : ℕ). range_with_len k (length vs)) size)
+    ap (λ (k : ℕ). k ∷ places_in all vs) here
+    ∙ ap (λ (ks : List ℕ). length before ∷ ks) (more ∙ ap (λ (k : ℕ). range_with_len k (length vs)) size)
 
 pub places_are : (names : List (List ℕ)) → AreNew [] names → places_in names names ≡ range_with_len 0 (length names)
 places_are names new = places_behind names [] names refl new

@@ -21,8 +21,10 @@ use Rattle.prd_reader.proofs.AsciiLemmas.{both}
 use Rattle.prd_reader.proofs.FrontLemmas.{same_text, texts_same}
 
 range_is : (z : ℤ) → in_range z ≡ true → IsInteger z
-range_is (pos n) test = let low : n < 2 ^ 63 = grind (arith, nat_tests) in record { least = omega (arith, ints); greatest = omega (arith, ints) }
-range_is (negsuc n) test = let low : n < 2 ^ 63 = grind (arith, nat_tests) in record { least = omega (arith, ints); greatest = omega (arith, ints) }
+range_is (pos n) test =
+    let low : n < 2 ^ 63 = grind (arith, nat_tests) in record { least = omega (arith, ints); greatest = omega (arith, ints) }
+range_is (negsuc n) test =
+    let low : n < 2 ^ 63 = grind (arith, nat_tests) in record { least = omega (arith, ints); greatest = omega (arith, ints) }
 
 pub integer_read : (t : List ℕ) (z : ℤ) → integer_of t ≡ Some z → (t ≡ signed_decimal z) × IsInteger z
 unfolding integer_of
@@ -53,14 +55,16 @@ in_range_of (pos n) fits = grind (arith, nat_tests)
 in_range_of (negsuc n) fits = grind (arith, nat_tests)
 
 -- what std's parsing gives at an integer's text
-pub parsed : {E : Type 0} (t : List ℕ) (r : Result ℤ E) (z : ℤ) → ParsesSigned w64 10 t r → IsInteger z → t ≡ signed_decimal z → r ≡ Ok z
+pub parsed : {E : Type 0} (t : List ℕ) (r : Result ℤ E) (z : ℤ) → ParsesSigned w64 10 t r → IsInteger z
+    → t ≡ signed_decimal z → r ≡ Ok z
 parsed t r z parses fits is = parse-signed_decimal w64 z t r (fits_signed z fits) (small z fits) is parses
 
 pub not_utf8 : (t : List ℕ) (z : ℤ) → (IsUtf8 t → ⊥) → IsInteger z → t ≡ signed_decimal z → ⊥
 not_utf8 t z broken fits is = broken (subst IsUtf8 (sym is) (IsUtf8-from_ascii _ (IsAscii-signed z (small z fits))))
 
 -- a number that writes as the text which it was read from
-pub integer_found : (t : List ℕ) (v : ℤ) → v ≡ signed_digits_value 10 t → signed_decimal v ≡ t → FitsSigned w64 v → integer_of t ≡ Some v
+pub integer_found : (t : List ℕ) (v : ℤ) → v ≡ signed_digits_value 10 t → signed_decimal v ≡ t → FitsSigned w64 v
+    → integer_of t ≡ Some v
 unfolding integer_of
 integer_found t v is text fits =
     let range : in_range (signed_digits_value 10 t) ≡ true = ap in_range (sym is) ∙ in_range_of v fits in
@@ -74,7 +78,8 @@ parse_failed t r failed parses = λ z fits is. failed z (parsed t r z parses fit
 same_ok : {E : Type 0} (v z : ℤ) → ◌≡◌ {A = Result ℤ E} (Ok v) (Ok z) → v ≡ z
 same_ok v z same = cc
 
-pub parse_done : {E : Type 0} (t : List ℕ) (r : Result ℤ E) (v : ℤ) → r ≡ Ok v → ParsesSigned w64 10 t r → v ≡ signed_digits_value 10 t → FitsSigned w64 v → IsParsed t v
+pub parse_done : {E : Type 0} (t : List ℕ) (r : Result ℤ E) (v : ℤ) → r ≡ Ok v → ParsesSigned w64 10 t r
+    → v ≡ signed_digits_value 10 t → FitsSigned w64 v → IsParsed t v
 parse_done {E} t r v done parses value fits = record {
   value = value;
   fits = fits;
@@ -89,7 +94,8 @@ not_written t v parse differs = integer_none t (λ z range is.
 pub written : (t : List ℕ) (v : ℤ) → IsParsed t v → bytes_eq (signed_decimal v) t ≡ true → integer_of t ≡ Some v
 written t v parse same = integer_found t v parse.value (same_text _ _ same) parse.fits
 
-sign_free : (bs : List ℕ) → (get_or bs 0 0 == 45) ≡ false → (get_or bs 0 0 == 43) ≡ false → signed_digits_value 10 bs ≡ pos (digits_value 10 bs)
+sign_free : (bs : List ℕ) → (get_or bs 0 0 == 45) ≡ false → (get_or bs 0 0 == 43) ≡ false
+    → signed_digits_value 10 bs ≡ pos (digits_value 10 bs)
 sign_free bs not_minus not_plus = rw (not_minus, not_plus) refl
 
 digits_value_is : (n : ℕ) → n < 2 ^ 64 → signed_digits_value 10 (decimal n) ≡ pos n
@@ -102,7 +108,10 @@ digits_value_is n low =
 
 value_again : (z : ℤ) → IsInteger z → z ≡ signed_digits_value 10 (signed_decimal z)
 value_again (pos n) fits = let e = fits.greatest in let low : n < 2 ^ 64 = omega (arith, ints) in sym (digits_value_is n low)
-value_again (negsuc n) fits = let e = fits.least in let low : suc n < 2 ^ 64 = omega (arith, ints) in sym (ap (λ (k : ℕ). neg_ℤ (pos k)) (decimal_is_IsNumeral (suc n) low).1)
+value_again (negsuc n) fits =
+    let e = fits.least in
+    let low : suc n < 2 ^ 64 = omega (arith, ints) in
+    sym (ap (λ (k : ℕ). neg_ℤ (pos k)) (decimal_is_IsNumeral (suc n) low).1)
 
 -- what is written as an integer is read as it
 pub integer_again : (z : ℤ) → IsInteger z → integer_of (signed_decimal z) ≡ Some z

@@ -12,7 +12,8 @@ use Rattle.prd_reader.specs.Leaves.{Leaf, word, mark}
 use Rattle.prd_reader.specs.Trees.{Vars, spell_vars, FormulaTree, spell_formula, ActionTrees, spell_actions, RuleTree, for_all, if_then, spell_rule}
 use Rattle.prd_reader.specs.Values.{formula_value, actions_value, names_in, places_in, rule_below, rule_value}
 use Rattle.prd_reader.specs.FirstForm.{AreNew, IsCondition, FitActions, action_count, has_variable, IsRule, IsFirstRule}
-use Rattle.prd_reader.specs.Reading.{before, condition_at, guard_at, past_do, block_at, body_at, variables_at, rule_of, rule_at, past_kind, past_word}
+use Rattle.prd_reader.specs.Reading.{before, past_kind, past_word}
+use Rattle.prd_reader.specs.RuleReading.{condition_at, guard_at, past_do, block_at, body_at, variables_at, rule_of, rule_at}
 use Rattle.prd_reader.proofs.FrontLemmas.{bind_some, symbol_passed, word_passed}
 use Rattle.prd_reader.proofs.NameLemmas.{variables_read, variables_again, places_are}
 use Rattle.prd_reader.proofs.FormulaLemmas.{condition_read, condition_again}
@@ -36,7 +37,8 @@ record IsGuard (names : List (List ℕ)) (ls : List Leaf) (f : Formula) (rest : 
   used : list_all (has_variable (spell_formula tree)) names ≡ true
   value : formula_value names tree ≡ f
 
-guard_read : (names : List (List ℕ)) (ls : List Leaf) (f : Formula) (rest : List Leaf) → guard_at MOST_PATTERNS names ls ≡ Some (f, rest) → IsGuard names ls f rest
+guard_read : (names : List (List ℕ)) (ls : List Leaf) (f : Formula) (rest : List Leaf)
+    → guard_at MOST_PATTERNS names ls ≡ Some (f, rest) → IsGuard names ls f rest
 unfolding guard_at
 guard_read names ls f rest given =
     let behind = bind_some (past_word (codes "If") ls) _ (f, rest) given in
@@ -50,13 +52,15 @@ guard_read names ls f rest given =
     record {
       tree = made.tree;
       spelled = word_passed (codes "If") ls behind.0 behind.1
-          ∙ ap (λ (xs : List Leaf). word (codes "If") ∷ xs) (made.spelled ∙ ap (λ (xs : List Leaf). spell_formula made.tree ++ xs) last);
+          ∙ ap (λ (xs : List Leaf). word (codes "If") ∷ xs) (made.spelled
+          ∙ ap (λ (xs : List Leaf). spell_formula made.tree ++ xs) last);
       fits = made.fits;
       used = subst (λ (xs : List Leaf). list_all (has_variable xs) names ≡ true) front test.0;
       value = made.value ∙ same;
     }
 
-guard_again : (names : List (List ℕ)) (f : FormulaTree) (rest : List Leaf) → IsCondition names f → list_all (has_variable (spell_formula f)) names ≡ true →
+guard_again : (names : List (List ℕ)) (f : FormulaTree) (rest : List Leaf) → IsCondition names f
+    → list_all (has_variable (spell_formula f)) names ≡ true →
     guard_at MOST_PATTERNS names (word (codes "If") ∷ (spell_formula f ++ rest)) ≡ Some (formula_value names f, rest)
 unfolding guard_at past_word
 guard_again names f rest fits used = rw (condition_again names f rest fits, before_is (spell_formula f) rest, used) refl
@@ -67,7 +71,8 @@ do_read ls rest given =
     let then_ = bind_some (past_word (codes "Then") ls) _ rest given in
     let do_ = bind_some (past_word (codes "Do") then_.0) _ rest then_.2 in
     word_passed (codes "Then") ls then_.0 then_.1 ∙ ap (λ (xs : List Leaf). word (codes "Then") ∷ xs)
-    (word_passed (codes "Do") then_.0 do_.0 do_.1 ∙ ap (λ (xs : List Leaf). word (codes "Do") ∷ xs) (symbol_passed Open do_.0 rest refl do_.2))
+    (word_passed (codes "Do") then_.0 do_.0 do_.1
+    ∙ ap (λ (xs : List Leaf). word (codes "Do") ∷ xs) (symbol_passed Open do_.0 rest refl do_.2))
 
 do_again : (rest : List Leaf) → past_do (word (codes "Then") ∷ word (codes "Do") ∷ mark Open ∷ rest) ≡ Some rest
 unfolding past_do past_word past_kind
@@ -78,12 +83,16 @@ abbrev body_leaves : FormulaTree → ActionTrees → List Leaf → List Leaf
 body_leaves f as_ rest = mark Open ∷ ((spell_rule (if_then f as_) ++ mark Close ∷ []) ++ rest)
 
 body_regrouped : (f : FormulaTree) (as_ : ActionTrees) (rest : List Leaf) →
-    mark Open ∷ (word (codes "If") ∷ (spell_formula f ++ (word (codes "Then") ∷ word (codes "Do") ∷ mark Open ∷ (spell_actions as_ ++ mark Close ∷ rest)))) ≡ body_leaves f as_ rest
+    mark Open ∷ (word (codes "If") ∷ (spell_formula f
+    ++ (word (codes "Then") ∷ word (codes "Do") ∷ mark Open ∷ (spell_actions as_ ++ mark Close ∷ rest))))
+    ≡ body_leaves f as_ rest
 body_regrouped f as_ rest =
     let outer = append_assoc (spell_rule (if_then f as_)) (mark Close ∷ []) rest in
-    let inner : spell_formula f ++ (word (codes "Then") ∷ word (codes "Do") ∷ mark Open ∷ (spell_actions as_ ++ mark Close ∷ rest))
+    let inner : spell_formula f
+    ++ (word (codes "Then") ∷ word (codes "Do") ∷ mark Open ∷ (spell_actions as_ ++ mark Close ∷ rest))
     ≡ (spell_formula f ++ (word (codes "Then") ∷ word (codes "Do") ∷ mark Open ∷ spell_actions as_)) ++ mark Close ∷ rest =
-    sym (append_assoc (spell_formula f) (word (codes "Then") ∷ word (codes "Do") ∷ mark Open ∷ spell_actions as_) (mark Close ∷ rest)) in
+    sym (append_assoc (spell_formula f) (word (codes "Then") ∷ word (codes "Do") ∷ mark Open ∷ spell_actions as_)
+    (mark Close ∷ rest)) in
     ap (λ (xs : List Leaf). mark Open ∷ xs) (ap (λ (xs : List Leaf). word (codes "If") ∷ xs) inner ∙ sym outer)
 
 record IsBodyTree (names : List (List ℕ)) (ls : List Leaf) (f : Formula) (as_ : List Action) (rest : List Leaf) : Type 0 where
@@ -97,7 +106,8 @@ record IsBodyTree (names : List (List ℕ)) (ls : List Leaf) (f : Formula) (as_ 
   value : formula_value names tree ≡ f
   values : actions_value names acts ≡ as_
 
-body_read : (names : List (List ℕ)) (ls : List Leaf) (f : Formula) (as_ : List Action) (rest : List Leaf) → body_at MOST_PATTERNS MOST_ACTIONS names ls ≡ Some (f, as_, rest) → IsBodyTree names ls f as_ rest
+body_read : (names : List (List ℕ)) (ls : List Leaf) (f : Formula) (as_ : List Action) (rest : List Leaf)
+    → body_at MOST_PATTERNS MOST_ACTIONS names ls ≡ Some (f, as_, rest) → IsBodyTree names ls f as_ rest
 unfolding body_at
 body_read names ls f as_ rest given =
     let inside = bind_some (past_kind Open ls) _ (f, as_, rest) given in
@@ -127,15 +137,23 @@ body_read names ls f as_ rest given =
       values = actions.value ∙ ap (λ (p : Formula × List Action × List Leaf). p.1) same;
     }
   where
-    some_same : (p q : Formula × List Action × List Leaf) → ◌≡◌ {A = Option (Formula × List Action × List Leaf)} (Some p) (Some q) → p ≡ q
+    some_same : (p q : Formula × List Action × List Leaf)
+        → ◌≡◌ {A = Option (Formula × List Action × List Leaf)} (Some p) (Some q) → p ≡ q
     some_same p q same = cc
 
-body_again : (names : List (List ℕ)) (f : FormulaTree) (as_ : ActionTrees) (rest : List Leaf) → IsCondition names f → list_all (has_variable (spell_formula f)) names ≡ true →
-    FitActions names as_ → action_count as_ ≤ MOST_ACTIONS → body_at MOST_PATTERNS MOST_ACTIONS names (body_leaves f as_ rest) ≡ Some (formula_value names f, actions_value names as_, rest)
+body_again : (names : List (List ℕ)) (f : FormulaTree) (as_ : ActionTrees) (rest : List Leaf) → IsCondition names f
+    → list_all (has_variable (spell_formula f)) names ≡ true →
+    FitActions names as_ → action_count as_ ≤ MOST_ACTIONS
+    → body_at MOST_PATTERNS MOST_ACTIONS names (body_leaves f as_ rest)
+    ≡ Some (formula_value names f, actions_value names as_, rest)
 unfolding body_at past_kind
 body_again names f as_ rest fits used fit few =
     ap (body_at MOST_PATTERNS MOST_ACTIONS names) (sym (body_regrouped f as_ rest))
-    ∙ rw (guard_again names f _ fits used, do_again (spell_actions as_ ++ mark Close ∷ rest), block_again names as_ MOST_ACTIONS (mark Close ∷ rest) fit few) refl
+    ∙ rw (
+      guard_again names f _ fits used,
+      do_again (spell_actions as_ ++ mark Close ∷ rest),
+      block_again names as_ MOST_ACTIONS (mark Close ∷ rest) fit few,
+    ) refl
 
 -- a rule by the places of its variables
 abbrev with_places : List (List ℕ) → Formula → List Action → List ℕ → Rule
@@ -167,9 +185,11 @@ pub record IsRuleTree (ls : List Leaf) (r : Rule) (rest : List Leaf) : Type 0 wh
 rule_regrouped : (vs : Vars) (f : FormulaTree) (as_ : ActionTrees) (rest : List Leaf) →
     word (codes "Forall") ∷ (spell_vars vs ++ body_leaves f as_ rest) ≡ spell_rule (for_all vs (if_then f as_)) ++ rest
 rule_regrouped vs f as_ rest =
-    ap (λ (xs : List Leaf). word (codes "Forall") ∷ xs) (sym (append_assoc (spell_vars vs) (mark Open ∷ (spell_rule (if_then f as_) ++ mark Close ∷ [])) rest))
+    ap (λ (xs : List Leaf). word (codes "Forall") ∷ xs)
+    (sym (append_assoc (spell_vars vs) (mark Open ∷ (spell_rule (if_then f as_) ++ mark Close ∷ [])) rest))
 
-pub rule_read : (ls : List Leaf) (r : Rule) (rest : List Leaf) → rule_at MOST_VARIABLES MOST_PATTERNS MOST_ACTIONS ls ≡ Some (r, rest) → IsRuleTree ls r rest
+pub rule_read : (ls : List Leaf) (r : Rule) (rest : List Leaf)
+    → rule_at MOST_VARIABLES MOST_PATTERNS MOST_ACTIONS ls ≡ Some (r, rest) → IsRuleTree ls r rest
 unfolding rule_at
 rule_read ls r rest given =
     let behind = bind_some (past_word (codes "Forall") ls) _ (r, rest) given in
@@ -189,7 +209,8 @@ rule_read ls r rest given =
     record {
       tree = for_all vars.vars (if_then made.tree made.acts);
       spelled = word_passed (codes "Forall") ls behind.0 behind.1 ∙ (ap (λ (xs : List Leaf). word (codes "Forall") ∷ xs)
-          (vars.spelled ∙ ap (λ (xs : List Leaf). spell_vars vars.vars ++ xs) (made.spelled ∙ ap (body_leaves made.tree made.acts) parts.1))
+          (vars.spelled ∙ ap (λ (xs : List Leaf). spell_vars vars.vars ++ xs) (made.spelled
+          ∙ ap (body_leaves made.tree made.acts) parts.1))
           ∙ rule_regrouped vars.vars made.tree made.acts rest);
       first = subst (λ (ns : List (List ℕ)). IsRule ns made.tree made.acts) (sym vars.value) rule;
       value = rule_is names.0.0 vars.vars made.tree made.acts vars.value vars.new
@@ -197,7 +218,8 @@ rule_read ls r rest given =
           ∙ (ap (rule_of names.0.0 body.0.0) made.values ∙ parts.0));
     }
 
-pub rule_again : (r : RuleTree) (rest : List Leaf) → IsFirstRule r → rule_at MOST_VARIABLES MOST_PATTERNS MOST_ACTIONS (spell_rule r ++ rest) ≡ Some (rule_value r, rest)
+pub rule_again : (r : RuleTree) (rest : List Leaf) → IsFirstRule r
+    → rule_at MOST_VARIABLES MOST_PATTERNS MOST_ACTIONS (spell_rule r ++ rest) ≡ Some (rule_value r, rest)
 unfolding rule_at past_word
 rule_again (if_then f as_) rest first = absurd first
 rule_again (for_all vs (for_all us r)) rest first = absurd first
@@ -205,6 +227,7 @@ rule_again (for_all vs (if_then f as_)) rest first =
     let value = rule_is (names_in vs) vs f as_ refl first.declared_once in
     ap (rule_at MOST_VARIABLES MOST_PATTERNS MOST_ACTIONS) (sym (rule_regrouped vs f as_ rest))
     ∙ rw (
-      variables_again MOST_VARIABLES vs Open ((spell_rule (if_then f as_) ++ mark Close ∷ []) ++ rest) first.declared_once first.few_names,
+      variables_again MOST_VARIABLES vs Open
+          ((spell_rule (if_then f as_) ++ mark Close ∷ []) ++ rest) first.declared_once first.few_names,
       body_again (names_in vs) f as_ rest first.condition first.all_used first.actions first.few_actions,
     ) (ap (λ (x : Rule). Some (x, rest)) (sym value))

@@ -64,7 +64,8 @@ from_front : (ls : List Leaf) (l : Leaf) → first_leaf ls ≡ Some l → ls ≡
 from_front [] l given = absurd (cc)
 from_front (k ∷ ls) l given = let same : k ≡ l = cc in ap (λ (x : Leaf). x ∷ ls) same
 
-place_read : (names : List (List ℕ)) (v : List ℕ) (p : ℕ) → var_from names v ≡ Some p → (has_name names v ≡ true) × (place_of names v ≡ p)
+place_read : (names : List (List ℕ)) (v : List ℕ) (p : ℕ) → var_from names v ≡ Some p
+    → (has_name names v ≡ true) × (place_of names v ≡ p)
 unfolding var_from
 place_read names v p given = cond_some (has_name names v) (place_of names v) p given
 
@@ -80,7 +81,12 @@ leaf_const names l t given =
     let step = bind_some (const_from l) _ t given in
     let made = const_read l step.0 step.1 in
     let value : ConstTerm step.0 ≡ t = let e = step.2 in cc in
-    record { tree = constant made.tree; spelled = ap (λ (x : Leaf). x ∷ []) made.spelled; fits = made.fits; value = ap ConstTerm made.value ∙ value }
+    record {
+      tree = constant made.tree;
+      spelled = ap (λ (x : Leaf). x ∷ []) made.spelled;
+      fits = made.fits;
+      value = ap ConstTerm made.value ∙ value;
+    }
 
 leaf_read : (names : List (List ℕ)) (l : Leaf) (t : Term) → term_from names l ≡ Some t → IsTermLeaf names l t
 unfolding term_from
@@ -97,7 +103,8 @@ leaf_read names (str x) t given = leaf_const names (str x) t given
 leaf_read names (iri x) t given = leaf_const names (iri x) t given
 leaf_read names (mark k) t given = leaf_const names (mark k) t given
 
-pub term_read : (names : List (List ℕ)) (ls : List Leaf) (t : Term) (rest : List Leaf) → term_at names ls ≡ Some (t, rest) → IsTermTree names ls t rest
+pub term_read : (names : List (List ℕ)) (ls : List Leaf) (t : Term) (rest : List Leaf)
+    → term_at names ls ≡ Some (t, rest) → IsTermTree names ls t rest
 unfolding term_at
 term_read names ls t rest given =
     let front = bind_some (first_leaf ls) _ (t, rest) given in
@@ -106,13 +113,16 @@ term_read names ls t rest given =
     let leaf = leaf_read names front.0 made.0 made.1 in
     record {
       tree = leaf.tree;
-      spelled = from_front ls front.0 front.1 ∙ (ap (λ (xs : List Leaf). xs ++ drop 1 ls) leaf.spelled ∙ ap (λ (xs : List Leaf). spell_term leaf.tree ++ xs) parts.1);
+      spelled =
+          from_front ls front.0 front.1 ∙ (ap (λ (xs : List Leaf). xs ++ drop 1 ls) leaf.spelled
+          ∙ ap (λ (xs : List Leaf). spell_term leaf.tree ++ xs) parts.1);
       fits = leaf.fits;
       value = leaf.value ∙ parts.0;
     }
 
 -- what is spelled as a term is read as it
-pub term_again : (names : List (List ℕ)) (x : TermTree) (rest : List Leaf) → FitsTerm names x → term_at names (spell_term x ++ rest) ≡ Some (term_value names x, rest)
+pub term_again : (names : List (List ℕ)) (x : TermTree) (rest : List Leaf) → FitsTerm names x
+    → term_at names (spell_term x ++ rest) ≡ Some (term_value names x, rest)
 unfolding term_at term_from var_from
 term_again names (variable v) rest fits = rw fits refl
 term_again names (constant (const_int z)) rest fits = rw (const_again (const_int z) fits) refl
@@ -141,7 +151,8 @@ pub record IsTailTree (names : List (List ℕ)) (t : TermTree) (ls : List Leaf) 
   pub fits : FitsTail names tail
   pub value : statement_value names t tail ≡ s
 
-member_read : (names : List (List ℕ)) (t : TermTree) (o : Term) (ls : List Leaf) (s : Statement) (rest : List Leaf) → term_value names t ≡ o →
+member_read : (names : List (List ℕ)) (t : TermTree) (o : Term) (ls : List Leaf) (s : Statement) (rest : List Leaf)
+    → term_value names t ≡ o →
     member_at names o ls ≡ Some (s, rest) → IsTailTree names t (mark Hash ∷ ls) s rest
 unfolding member_at
 member_read names t o ls s rest first given =
@@ -155,12 +166,15 @@ member_read names t o ls s rest first given =
       value = ap (λ (x : Term). Member x (term_value names class.tree)) first ∙ (ap (Member o) class.value ∙ parts.0);
     }
 
-pair_regrouped : (a b rest : List Leaf) → a ++ (mark Arrow ∷ (b ++ (mark CloseSquare ∷ rest))) ≡ (a ++ mark Arrow ∷ (b ++ mark CloseSquare ∷ [])) ++ rest
+pair_regrouped : (a b rest : List Leaf) → a ++ (mark Arrow ∷ (b ++ (mark CloseSquare ∷ rest)))
+    ≡ (a ++ mark Arrow ∷ (b ++ mark CloseSquare ∷ [])) ++ rest
 pair_regrouped a b rest =
-    let inner : b ++ (mark CloseSquare ∷ rest) ≡ (b ++ mark CloseSquare ∷ []) ++ rest = sym (append_assoc b (mark CloseSquare ∷ []) rest) in
+    let inner : b ++ (mark CloseSquare ∷ rest) ≡ (b ++ mark CloseSquare ∷ []) ++ rest =
+    sym (append_assoc b (mark CloseSquare ∷ []) rest) in
     ap (λ (xs : List Leaf). a ++ mark Arrow ∷ xs) inner ∙ sym (append_assoc a (mark Arrow ∷ (b ++ mark CloseSquare ∷ [])) rest)
 
-frame_read : (names : List (List ℕ)) (t : TermTree) (o : Term) (ls : List Leaf) (s : Statement) (rest : List Leaf) → term_value names t ≡ o →
+frame_read : (names : List (List ℕ)) (t : TermTree) (o : Term) (ls : List Leaf) (s : Statement) (rest : List Leaf)
+    → term_value names t ≡ o →
     frame_at names o ls ≡ Some (s, rest) → IsTailTree names t ls s rest
 unfolding frame_at
 frame_read names t o ls s rest first given =
@@ -176,19 +190,25 @@ frame_read names t o ls s rest first given =
     let arrow = symbol_passed Arrow slot.0.1 behind.0 refl behind.1 in
     let closed = symbol_passed CloseSquare value.0.1 last.0 refl last.1 in
     let end : value.0.1 ≡ mark CloseSquare ∷ rest = closed ∙ ap (λ (xs : List Leaf). mark CloseSquare ∷ xs) parts.1 in
-    let from_value : behind.0 ≡ spell_term value_tree.tree ++ (mark CloseSquare ∷ rest) = value_tree.spelled ∙ ap (λ (xs : List Leaf). spell_term value_tree.tree ++ xs) end in
+    let from_value : behind.0 ≡ spell_term value_tree.tree ++ (mark CloseSquare ∷ rest) =
+    value_tree.spelled ∙ ap (λ (xs : List Leaf). spell_term value_tree.tree ++ xs) end in
     let from_slot : inside.0 ≡ spell_term slot_tree.tree ++ (mark Arrow ∷ (spell_term value_tree.tree ++ (mark CloseSquare ∷ rest))) =
-    slot_tree.spelled ∙ ap (λ (xs : List Leaf). spell_term slot_tree.tree ++ xs) (arrow ∙ ap (λ (xs : List Leaf). mark Arrow ∷ xs) from_value) in
+    slot_tree.spelled ∙ ap (λ (xs : List Leaf). spell_term slot_tree.tree ++ xs) (arrow
+    ∙ ap (λ (xs : List Leaf). mark Arrow ∷ xs) from_value) in
     record {
       tail = with_pairs (last_pair slot_tree.tree value_tree.tree);
-      spelled = opened ∙ ap (λ (xs : List Leaf). mark OpenSquare ∷ xs) (from_slot ∙ pair_regrouped (spell_term slot_tree.tree) (spell_term value_tree.tree) rest);
+      spelled =
+          opened ∙ ap (λ (xs : List Leaf). mark OpenSquare ∷ xs) (from_slot
+          ∙ pair_regrouped (spell_term slot_tree.tree) (spell_term value_tree.tree) rest);
       fits = (slot_tree.fits, value_tree.fits);
       value = let a = slot_tree.value in let b = value_tree.value in let c = parts.0 in
           ap (λ (x : Term). Frame x (term_value names slot_tree.tree) (term_value names value_tree.tree)) first
-          ∙ (ap (λ (x : Term). Frame o x (term_value names value_tree.tree)) slot_tree.value ∙ (ap (Frame o slot.0.0) value_tree.value ∙ parts.0));
+          ∙ (ap (λ (x : Term). Frame o x (term_value names value_tree.tree)) slot_tree.value
+          ∙ (ap (Frame o slot.0.0) value_tree.value ∙ parts.0));
     }
 
-pub statement_read : (names : List (List ℕ)) (ls : List Leaf) (s : Statement) (rest : List Leaf) → statement_at names ls ≡ Some (s, rest) → IsStatementTree names ls s rest
+pub statement_read : (names : List (List ℕ)) (ls : List Leaf) (s : Statement) (rest : List Leaf)
+    → statement_at names ls ≡ Some (s, rest) → IsStatementTree names ls s rest
 unfolding statement_at
 statement_read names ls s rest given =
     let object = bind_some (term_at names ls) _ (s, rest) given in
@@ -203,18 +223,25 @@ statement_read names ls s rest given =
     record {
       term = first.tree;
       tail = tail.tail;
-      spelled = first.spelled ∙ (ap (λ (xs : List Leaf). spell_term first.tree ++ xs) tail.spelled ∙ sym (append_assoc (spell_term first.tree) (spell_tail tail.tail) rest));
+      spelled =
+          first.spelled ∙ (ap (λ (xs : List Leaf). spell_term first.tree ++ xs) tail.spelled
+          ∙ sym (append_assoc (spell_term first.tree) (spell_tail tail.tail) rest));
       fits_term = first.fits;
       fits_tail = tail.fits;
       value = tail.value;
     }
 
 -- what is spelled as a statement is read as it
-pub statement_again : (names : List (List ℕ)) (t : TermTree) (tail : Tail) (rest : List Leaf) → FitsTerm names t → FitsTail names tail →
+pub statement_again : (names : List (List ℕ)) (t : TermTree) (tail : Tail) (rest : List Leaf) → FitsTerm names t
+    → FitsTail names tail →
     statement_at names ((spell_term t ++ spell_tail tail) ++ rest) ≡ Some (statement_value names t tail, rest)
 unfolding statement_at member_at frame_at past_kind
 statement_again names t (member_of u) rest fits more =
-    rw (append_assoc (spell_term t) (mark Hash ∷ spell_term u) rest, term_again names t (mark Hash ∷ (spell_term u ++ rest)) fits, term_again names u rest more) refl
+    rw (
+      append_assoc (spell_term t) (mark Hash ∷ spell_term u) rest,
+      term_again names t (mark Hash ∷ (spell_term u ++ rest)) fits,
+      term_again names u rest more,
+    ) refl
 statement_again names t (with_pairs (last_pair s v)) rest fits more =
     rw (
       append_assoc (spell_term t) (mark OpenSquare ∷ spell_pairs (last_pair s v)) rest,

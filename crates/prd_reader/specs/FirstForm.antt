@@ -122,7 +122,8 @@ is_white b = b == 32 || b == 9 || b == 13 || b == 10
 -- whether all bytes from a place on that aren't of a token are white space, so that there is no annotation
 abbrev pub are_spaced_from : ℕ → List ℕ → List Token → Bool
 are_spaced_from at bytes [] = list_all is_white (drop at bytes)
-are_spaced_from at bytes (t ∷ ts) = list_all is_white (take (t.start - at) (drop at bytes)) && are_spaced_from t.end bytes ts
+are_spaced_from at bytes (t ∷ ts) =
+    list_all is_white (take (t.start - at) (drop at bytes)) && are_spaced_from t.end bytes ts
 
 -- the tokens of these bytes are a document of the first form
 pub record IsFirstForm (tokens : List Token) (bytes : List ℕ) (doc : Doc) : Type 0 where

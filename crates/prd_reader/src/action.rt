@@ -1,6 +1,7 @@
 //! The actions of a rule.
 ghost use Rattle.rif_terms.specs.declared.limits.TheConstants.{MOST_ACTIONS};
-ghost use Rattle.prd_reader.specs.Reading.{Gives, action_at, actions_at, block_at, retract_at, seen, target_at, with_seen};
+ghost use Rattle.prd_reader.specs.Reading.{Gives, seen, with_seen};
+ghost use Rattle.prd_reader.specs.RuleReading.{action_at, actions_at, block_at, retract_at, target_at};
 
 use crate::leaves::Leaves;
 use crate::names::Names;
@@ -24,7 +25,7 @@ pub fn read_block<'a>(
 }
 
 // The actions at the front, at least one and at most so many, and the bracket that closes them.
-#[tactic(auto, unfolding(crate::specs::Reading::block_at))]
+#[tactic(auto, unfolding(crate::specs::RuleReading::block_at))]
 fn read_some_actions<'a>(
     alloc: Global,
     names: &Names,
@@ -64,7 +65,7 @@ fn read_actions<'a>(
 }
 
 // One action.
-#[tactic(auto, unfolding(crate::specs::Reading::action_at))]
+#[tactic(auto, unfolding(crate::specs::RuleReading::action_at))]
 fn read_action<'a>(
     alloc: Global,
     names: &Names,
@@ -80,7 +81,7 @@ fn read_action<'a>(
 }
 
 // A `Retract`.
-#[tactic(auto, unfolding(crate::specs::Reading::retract_at))]
+#[tactic(auto, unfolding(crate::specs::RuleReading::retract_at))]
 fn read_retract<'a>(
     alloc: Global,
     names: &Names,
@@ -94,7 +95,7 @@ fn read_retract<'a>(
 }
 
 // What an action asserts or retracts, in brackets.
-#[tactic(auto, unfolding(crate::specs::Reading::target_at))]
+#[tactic(auto, unfolding(crate::specs::RuleReading::target_at))]
 fn read_target<'a>(
     alloc: Global,
     names: &Names,

@@ -1,6 +1,7 @@
 //! The condition of a rule.
 ghost use Rattle.rif_terms.specs.declared.limits.TheConstants.{MOST_PATTERNS};
-ghost use Rattle.prd_reader.specs.Reading.{Gives, condition_at, conjunction_at, pattern_at, patterns_at, seen, with_seen};
+ghost use Rattle.prd_reader.specs.Reading.{Gives, seen, with_seen};
+ghost use Rattle.prd_reader.specs.RuleReading.{condition_at, conjunction_at, pattern_at, patterns_at};
 
 use crate::leaves::Leaves;
 use crate::names::Names;
@@ -12,7 +13,7 @@ use sqlite_items::Items;
 use std::alloc::Global;
 
 /// The condition at the front: a pattern, or one `And` of at most 32 patterns.
-#[tactic(auto, unfolding(crate::specs::Reading::condition_at))]
+#[tactic(auto, unfolding(crate::specs::RuleReading::condition_at))]
 pub fn read_condition<'a>(
     alloc: Global,
     names: &Names,
@@ -28,7 +29,7 @@ pub fn read_condition<'a>(
 }
 
 // The patterns of an `And`, at most so many, in their brackets.
-#[tactic(auto, unfolding(crate::specs::Reading::conjunction_at))]
+#[tactic(auto, unfolding(crate::specs::RuleReading::conjunction_at))]
 fn read_conjunction<'a>(
     alloc: Global,
     names: &Names,
@@ -44,7 +45,7 @@ fn read_conjunction<'a>(
 }
 
 // A membership or a frame, as a formula.
-#[tactic(auto, unfolding(crate::specs::Reading::pattern_at))]
+#[tactic(auto, unfolding(crate::specs::RuleReading::pattern_at))]
 fn read_pattern<'a>(
     alloc: Global,
     names: &Names,

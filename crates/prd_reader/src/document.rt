@@ -1,6 +1,7 @@
 ghost use Rattle.std.specs.Prelude.{IfErr, IfOk};
 ghost use Rattle.prd_reader.specs.FirstForm.{IsFirstForm, RefusesFirstForm};
-ghost use Rattle.prd_reader.specs.Reading.{Gives, document_at, group_at, in_group, members_at, rules_at, seen, with_seen};
+ghost use Rattle.prd_reader.specs.Reading.{Gives, seen, with_seen};
+ghost use Rattle.prd_reader.specs.RuleReading.{document_at, group_at, in_group, members_at, rules_at};
 
 use crate::leaves::Leaves;
 use crate::refusing::left_out;
@@ -30,7 +31,7 @@ pub fn read_doc(alloc: Global, tokens: &Tokens, bytes: &[u8]) -> Result<Doc, Fau
 }
 
 // The document that the leaves are, all of them.
-#[tactic(auto, unfolding(crate::specs::Reading::rules_at))]
+#[tactic(auto, unfolding(crate::specs::RuleReading::rules_at))]
 fn read_all(alloc: Global, at: Leaves<'_>) -> Result<Doc, Fault>
     ensures { Gives (λ doc. doc.rules) result (rules_at (seen at.entry)) }
 {
@@ -42,7 +43,7 @@ fn read_all(alloc: Global, at: Leaves<'_>) -> Result<Doc, Fault>
 }
 
 // The rules of the document at the front.
-#[tactic(auto, unfolding(crate::specs::Reading::document_at))]
+#[tactic(auto, unfolding(crate::specs::RuleReading::document_at))]
 fn read_document<'a>(alloc: Global, at: Leaves<'a>) -> Result<(Items<Rule>, Leaves<'a>), Fault>
     ensures { Gives with_seen result (document_at (seen at.entry)) }
 {
@@ -54,7 +55,7 @@ fn read_document<'a>(alloc: Global, at: Leaves<'a>) -> Result<(Items<Rule>, Leav
 }
 
 // The rules of the group at the front, and none where there is no group.
-#[tactic(auto, unfolding(crate::specs::Reading::group_at))]
+#[tactic(auto, unfolding(crate::specs::RuleReading::group_at))]
 fn read_group<'a>(alloc: Global, at: Leaves<'a>) -> Result<(Items<Rule>, Leaves<'a>), Fault>
     ensures { Gives with_seen result (group_at (seen at.entry)) }
 {
@@ -66,7 +67,7 @@ fn read_group<'a>(alloc: Global, at: Leaves<'a>) -> Result<(Items<Rule>, Leaves<
 }
 
 // The rules of a group, in its brackets.
-#[tactic(auto, unfolding(crate::specs::Reading::in_group))]
+#[tactic(auto, unfolding(crate::specs::RuleReading::in_group))]
 fn read_members_in_brackets<'a>(
     alloc: Global,
     at: Leaves<'a>,
@@ -80,7 +81,7 @@ fn read_members_in_brackets<'a>(
 }
 
 // The rule at the front, if any.
-#[tactic(auto, unfolding(crate::specs::Reading::members_at))]
+#[tactic(auto, unfolding(crate::specs::RuleReading::members_at))]
 fn read_members<'a>(alloc: Global, at: Leaves<'a>) -> Result<(Items<Rule>, Leaves<'a>), Fault>
     ensures { Gives with_seen result (members_at (seen at.entry)) }
 {

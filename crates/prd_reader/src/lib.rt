@@ -3,15 +3,15 @@
 //!
 //! | File | Has | Its words |
 //! |---|---|---|
-//! | `document.rt` | `read_doc`, the document of all tokens | `specs/FirstForm.antt` |
-//! | `rule.rt` | a rule | `specs/Trees.antt`, `specs/Values.antt` |
-//! | `action.rt` | the actions of a rule | `specs/Trees.antt`, `specs/Values.antt` |
-//! | `condition.rt` | the condition of a rule | `specs/Trees.antt`, `specs/Values.antt` |
-//! | `fact.rt` | `read_fact`, the fact that tokens stand for | `specs/FirstForm.antt` |
-//! | `statement.rt` | a membership or a frame | `specs/Trees.antt`, `specs/Values.antt` |
-//! | `term.rt` | constants and variables | `specs/Leaves.antt` |
-//! | `names.rt` | the names of a rule's variables | `specs/FirstForm.antt` |
-//! | `leaves.rt` | the tokens that are left to read | `specs/Leaves.antt` |
+//! | `document.rt` | `read_doc`, the document of all tokens | `specs/FirstForm.antt`, `specs/Trees.antt`, `specs/Values.antt` |
+//! | `rule.rt` | a rule | `specs/RuleReading.antt` |
+//! | `action.rt` | the actions of a rule | `specs/RuleReading.antt` |
+//! | `condition.rt` | the condition of a rule | `specs/RuleReading.antt` |
+//! | `fact.rt` | `read_fact`, the fact that tokens stand for | `specs/Reading.antt` |
+//! | `statement.rt` | a membership or a frame | `specs/Reading.antt` |
+//! | `term.rt` | constants and variables; `read_number`, the integer that tokens are | `specs/Reading.antt`, `specs/Leaves.antt` |
+//! | `names.rt` | the names of a rule's variables | `specs/RuleReading.antt` |
+//! | `leaves.rt` | the tokens that are left to read | `specs/Reading.antt`, `specs/Leaves.antt` |
 //! | `spacing.rt` | `are_ascii`, `are_spaced`: that bytes are ASCII, and have no annotation | `specs/FirstForm.antt` |
 //! | `laws.rt` | laws of the definitions, with empty bodies | `specs/FirstForm.antt` |
 //! | `refusing.rt` | `left_out`, the refusal of all else | |

@@ -22,7 +22,8 @@ impl Names {
     ghost use Rattle.std.specs.Str.{IsAscii};
     ghost use Rattle.rif_terms.specs.declared.limits.TheConstants.{MOST_VARIABLES};
     ghost use Rattle.prd_reader.specs.FirstForm.{has_variable};
-    ghost use Rattle.prd_reader.specs.Reading.{Gives, names_with, seen, takes_name, var_from};
+    ghost use Rattle.prd_reader.specs.Reading.{Gives, seen, var_from};
+    ghost use Rattle.prd_reader.specs.RuleReading.{names_with, takes_name};
     ghost use Rattle.prd_reader.specs.Values.{has_name};
 
     /// No names.

@@ -1,7 +1,8 @@
 //! Rules.
 ghost use Rattle.std.specs.Prelude.{◌≡◌, [], ◌∷◌, IfOk};
 ghost use Rattle.rif_terms.specs.declared.limits.TheConstants.{MOST_ACTIONS, MOST_PATTERNS, MOST_VARIABLES};
-ghost use Rattle.prd_reader.specs.Reading.{Gives, body_at, guard_at, names_at, past_do, rule_at, rule_of, seen, variables_at, with_seen};
+ghost use Rattle.prd_reader.specs.Reading.{Gives, seen, with_seen};
+ghost use Rattle.prd_reader.specs.RuleReading.{body_at, guard_at, names_at, past_do, rule_at, rule_of, variables_at};
 
 use crate::action::read_block;
 use crate::condition::read_condition;
@@ -14,7 +15,7 @@ use sqlite_items::Items;
 use std::alloc::Global;
 
 /// The rule at the front.
-#[tactic(auto, unfolding(crate::specs::Reading::rule_at))]
+#[tactic(auto, unfolding(crate::specs::RuleReading::rule_at))]
 pub fn read_rule<'a>(alloc: Global, at: Leaves<'a>) -> Result<(Rule, Leaves<'a>), Fault>
     ensures { Gives with_seen result (rule_at MOST_VARIABLES MOST_PATTERNS MOST_ACTIONS (seen at.entry)) }
 {
@@ -32,7 +33,7 @@ struct Body {
 }
 
 // The rule below the variables, in its brackets.
-#[tactic(auto, unfolding(crate::specs::Reading::body_at))]
+#[tactic(auto, unfolding(crate::specs::RuleReading::body_at))]
 fn read_body<'a>(alloc: Global, names: &Names, at: Leaves<'a>) -> Result<(Body, Leaves<'a>), Fault>
     ensures { Gives (λ found. (found.0.condition, found.0.actions, seen found.1)) result (body_at MOST_PATTERNS MOST_ACTIONS names.now.all (seen at.entry)) }
 {
@@ -45,7 +46,7 @@ fn read_body<'a>(alloc: Global, names: &Names, at: Leaves<'a>) -> Result<(Body, 
 }
 
 // The leaves behind `Then Do (`.
-#[tactic(auto, unfolding(crate::specs::Reading::past_do))]
+#[tactic(auto, unfolding(crate::specs::RuleReading::past_do))]
 fn past_do<'a>(at: Leaves<'a>) -> Result<Leaves<'a>, Fault>
     ensures { Gives seen result (past_do (seen at.entry)) }
 {
@@ -55,7 +56,7 @@ fn past_do<'a>(at: Leaves<'a>) -> Result<Leaves<'a>, Fault>
 }
 
 // The variables at the front, at least one.
-#[tactic(auto, unfolding(crate::specs::Reading::variables_at))]
+#[tactic(auto, unfolding(crate::specs::RuleReading::variables_at))]
 fn read_variables<'a>(alloc: Global, from: Leaves<'a>) -> Result<(Names, Leaves<'a>), Fault>
     ensures { Gives (λ found. (found.0.all, seen found.1)) result (variables_at MOST_VARIABLES (seen from.entry)) }
 {
@@ -80,7 +81,7 @@ fn read_names<'a>(alloc: Global, from: Leaves<'a>) -> Result<(Names, Leaves<'a>)
 }
 
 // The condition at the front, behind its `If`. Each variable stands in it.
-#[tactic(auto, unfolding(crate::specs::Reading::guard_at))]
+#[tactic(auto, unfolding(crate::specs::RuleReading::guard_at))]
 fn read_guard<'a>(
     alloc: Global,
     names: &Names,

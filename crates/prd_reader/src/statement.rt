@@ -1,6 +1,7 @@
 //! Memberships and frames with one pair, which conditions, actions and facts are made of.
 ghost use Rattle.std.specs.Prelude.{◌≡◌, [], ◌∷◌, IfOk};
-ghost use Rattle.prd_reader.specs.Reading.{Gives, fact_of, formula_of, frame_at, ground_in, member_at, seen, statement_at, target_of, with_seen};
+ghost use Rattle.prd_reader.specs.Reading.{Gives, fact_of, frame_at, ground_in, member_at, seen, statement_at, with_seen};
+ghost use Rattle.prd_reader.specs.RuleReading.{formula_of, target_of};
 
 use crate::leaves::Leaves;
 use crate::names::Names;

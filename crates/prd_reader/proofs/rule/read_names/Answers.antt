@@ -7,7 +7,8 @@ use Rattle.prd_reader.proofs.rule.read_names.Goals as goal
 
 pub loop-name-preserved : goal.loop-name-preserved
 loop-name-preserved c =
-    names_next _ _ _ (seen c.loop-name.at) _ c.in-Some.name.now _ c.loop-name.invariant c.in-Some.ensures.name c.in_ok-declare.ensures c.rest-at.ensures
+    names_next _ _ _ (seen c.loop-name.at) _ c.in-Some.name.now _ c.loop-name.invariant c.in-Some.ensures.name
+    c.in_ok-declare.ensures c.rest-at.ensures
 
 pub returns : goal.returns
 returns c = sym c.loop-name.invariant ∙ names_stop _ c.loop-name.names.all (seen c.loop-name.at) (sym c.in_default.ensures.name)

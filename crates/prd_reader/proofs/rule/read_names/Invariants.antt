@@ -1,6 +1,7 @@
 use Rattle.std.proofs.Common.{◌≡◌, [], length}
 use Rattle.rif_terms.specs.declared.limits.TheConstants.{MOST_VARIABLES}
-use Rattle.prd_reader.specs.Reading.{names_at, seen}
+use Rattle.prd_reader.specs.Reading.{seen}
+use Rattle.prd_reader.specs.RuleReading.{names_at}
 use Rattle.prd_reader.proofs.rule.read_names.Given as goal
 
 abbrev pub invariant-loop-name : goal.invariant-loop-name

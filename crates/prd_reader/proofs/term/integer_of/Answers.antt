@@ -13,11 +13,16 @@ returns-in_default c = refused c.left_out.result _ c.left_out.ensures (integer_n
 pub returns-then-not-is_written : goal.returns-then-not-is_written
 returns-then-not-is_written c =
     let back = to_z-of_z w64 c.in-Some.value c.in-Some.ensures.fits in
-    let test = ap (λ (v : ℤ). bytes_eq (signed_decimal v) c.args.text.now) (sym back) ∙ (sym c.is_written.ensures ∙ c.if-not-is_written.true) in
-    refused c.left_out-then-not-is_written.result _ c.left_out-then-not-is_written.ensures (not_written c.args.text.now c.in-Some.value c.in-Some.ensures test)
+    let test =
+    ap (λ (v : ℤ). bytes_eq (signed_decimal v) c.args.text.now) (sym back)
+    ∙ (sym c.is_written.ensures ∙ c.if-not-is_written.true) in
+    refused c.left_out-then-not-is_written.result _ c.left_out-then-not-is_written.ensures
+    (not_written c.args.text.now c.in-Some.value c.in-Some.ensures test)
 
 pub returns : goal.returns
 returns c =
     let back = to_z-of_z w64 c.in-Some.value c.in-Some.ensures.fits in
-    let test = ap (λ (v : ℤ). bytes_eq (signed_decimal v) c.args.text.now) (sym back) ∙ (sym c.is_written.ensures ∙ c.if-not-is_written.false) in
+    let test =
+    ap (λ (v : ℤ). bytes_eq (signed_decimal v) c.args.text.now) (sym back)
+    ∙ (sym c.is_written.ensures ∙ c.if-not-is_written.false) in
     rw back (written c.args.text.now c.in-Some.value c.in-Some.ensures test)

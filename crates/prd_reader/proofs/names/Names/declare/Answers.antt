@@ -9,7 +9,8 @@ from_bytes-requires c = IsUtf8-from_ascii c.args.name.now c.requires
 
 pub returns-then-not-takes : goal.returns-then-not-takes
 returns-then-not-takes c =
-    refused c.left_out.result _ c.left_out.ensures (names_not_taken _ c.args.self.now.all c.args.name.now c.takes.result c.takes.ensures c.if-not-takes.true)
+    refused c.left_out.result _ c.left_out.ensures
+    (names_not_taken _ c.args.self.now.all c.args.name.now c.takes.result c.takes.ensures c.if-not-takes.true)
 
 pub returns : goal.returns
 returns c =

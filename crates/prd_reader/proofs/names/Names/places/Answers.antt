@@ -4,4 +4,5 @@ use Rattle.prd_reader.proofs.names.Names.places.Goals as goal
 
 pub loop-place-preserved : goal.loop-place-preserved
 loop-place-preserved c =
-    c.in_ok-push.ensures.ok ∙ (ap (λ (ks : List ℕ). ks ++ c.loop-place.place ∷ []) c.loop-place.invariant ∙ sym (range_more c.loop-place.place))
+    c.in_ok-push.ensures.ok ∙ (ap (λ (ks : List ℕ). ks ++ c.loop-place.place ∷ []) c.loop-place.invariant
+    ∙ sym (range_more c.loop-place.place))
