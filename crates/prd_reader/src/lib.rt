@@ -39,3 +39,6 @@ pub use leaves::Leaves;
 pub use refusing::left_out;
 pub use spacing::{are_ascii, are_spaced};
 pub use term::read_number;
+
+#[cfg(test)]
+mod tests;
