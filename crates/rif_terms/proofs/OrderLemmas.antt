@@ -1,5 +1,5 @@
 -- The derived orders are the stated ones, and these are total and tell all elements apart.
-use Rattle.std.proofs.Common.{◌≡◌, ℕ, List, [], ◌∷◌, refl, ap, subst}
+use Rattle.std.proofs.Common.{◌≡◌, ℕ, List, refl, ap, subst}
 use Rattle.std.specs.declared.cmp.Ordering.{Ordering}
 use Rattle.std.specs.Ordering.{ordering_then, nat_cmp}
 use Rattle.std.specs.Cmp.{IsTotalOrder}
@@ -21,7 +21,7 @@ use Rattle.rif_terms.specs.contracts.instance.InstanceOrd.TheImpl.Laws as instan
 use Rattle.rif_terms.specs.OrderLaws.{AreTotal, TellAllApart}
 use Rattle.rif_terms.specs.Sets.{IsExact}
 use Rattle.rif_terms.proofs.ExactLemmas.{exact_bools, exact_then, exact_lists}
-use Rattle.rif_terms.specs.Order.{const_cmp, fact_cmp, pair_cmp, binding_cmp}
+use Rattle.rif_terms.specs.Order.{const_cmp, fact_cmp, binding_cmp}
 use Rattle.rif_terms.specs.InstanceOrder.{instance_cmp}
 
 derived_const : (a b : Const) → const_order.ghosts.cmp a b ≡ const_cmp a b

@@ -1,6 +1,6 @@
 -- What a binary search finds in a set.
-use Rattle.std.proofs.Common.{◌≡◌, ℕ, zero, suc, ◌≤◌, ◌<◌, Bool, true, false, ◌||◌, List, [], ◌∷◌, ◌++◌, length, get_or, take, drop, Ordering, Less, Equal, Greater, Result, Ok, Err, IfOk, IfErr, refl, sym, ap, ap₂, ◌∙◌, arith}
-use Rattle.std.specs.Ordering.{eq_by_cmp, ordering_index, ordering_reverse, match_ordering, is_eq}
+use Rattle.std.proofs.Common.{◌≡◌, ℕ, zero, suc, ◌≤◌, ◌<◌, Bool, true, false, ◌||◌, List, [], ◌∷◌, length, get_or, Ordering, Less, Equal, Greater, Result, Ok, Err, IfOk, IfErr, refl, sym, ap, ◌∙◌, arith}
+use Rattle.std.specs.Ordering.{ordering_index, ordering_reverse, match_ordering, is_eq}
 use Rattle.std.specs.List.{AllByRecursion, AllWithin, HoldsAt, insert}
 use Rattle.std.specs.List.Sorted.{IsStrictlySortedBy, IsNonDecreasingBy, IsSearchInRange, IsBinarySearchResult}
 use Rattle.std.specs.BTreeSet.{insert_key}

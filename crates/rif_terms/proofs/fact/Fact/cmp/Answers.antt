@@ -1,4 +1,4 @@
-use Rattle.std.proofs.Common.{◌≡◌, ◌∙◌, ap}
+use Rattle.std.proofs.Common.{◌∙◌}
 use Rattle.rif_terms.proofs.OrderLemmas.{fact_order_is}
 use Rattle.rif_terms.proofs.fact.Fact.cmp.Goals as goal
 
