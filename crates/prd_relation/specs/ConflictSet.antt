@@ -2,7 +2,7 @@
 --     condition_of rule        the formulas that the rule's condition is the conjunction of
 --     rows_of w rule           the values of the rule's variables that satisfy its condition
 --     conflict_set doc w       the instances of all rules
--- Source: RIF-PRD, "Conflict set" and "Rule instance".
+-- Source: RIF-PRD, "Operational semantics of a production rule system" and "Definitions and notational conventions".
 use Rattle.std.specs.Prelude.{ℕ, suc, List, [], ◌∷◌, ◌++◌, map}
 use Rattle.std.specs.List.{flat_map}
 use Rattle.std.specs.Option.{option_to_list}

@@ -4,7 +4,7 @@
 --                                from left to right, the fact's constants as values, if there is one
 --     through w formula rows     the rows taken through the formula
 --     extensions_of w row f      the rows that extend the row and satisfy the formula, in order without repeats
--- Source: RIF-PRD, "Matching substitution" and "Satisfaction of a condition". In a ready order (docs/PROFILE.md,
+-- Source: RIF-PRD, "Matching substitution" and "Condition satisfaction". In a ready order (docs/PROFILE.md,
 -- "Ready order") each term that a row is asked for has its variables bound.
 use Rattle.std.specs.Prelude.{ℕ, Bool, true, false, ◌==◌, not, List, [], ◌∷◌, map, filter, length, Some, None, if◌then◌else◌}
 use Rattle.std.specs.List.{flat_map, filter_map, list_any}

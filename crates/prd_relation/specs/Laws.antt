@@ -1,5 +1,5 @@
 -- What the words of histories and of the choice promise: the statements of the laws in src/laws.rt.
--- Source: RIF-PRD, "Conflict set" and "Conflict resolution".
+-- Source: RIF-PRD, "Operational semantics of a production rule system" and "Conflict resolution".
 use Rattle.std.specs.Prelude.{◌≡◌, ◌↔◌, ℕ, true, false, List, [], Some, None}
 use Rattle.rif_terms.specs.declared.fact.Fact.{Fact}
 use Rattle.rif_terms.specs.declared.instance.Instance.{Instance}

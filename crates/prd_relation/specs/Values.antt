@@ -2,7 +2,7 @@
 --     value_of row t        a term's value, where it has one
 --     values_of row ts      the values of some terms, where each has one
 --     bound row v c         the row with one more variable, at its place
--- Source: RIF-PRD, "Terms" and "Substitutions".
+-- Source: RIF-PRD, "Terms" and "Matching substitution".
 use Rattle.std.specs.Prelude.{ℕ, List, [], ◌∷◌, map, nat_lt, Some, None, if◌then◌else◌}
 use Rattle.std.specs.Option.{option_map}
 use Rattle.std.specs.declared.option.Option.{Option}

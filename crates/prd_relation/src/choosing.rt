@@ -72,7 +72,7 @@ fn push_unrefracted(
 /// The priority of the rule of this number, counted from 1, in constant time, and 0 where there is no such
 /// rule.
 ///
-/// Source: RIF-PRD, "Rules and groups".
+/// Source: RIF-PRD, "Groups".
 pub fn priority(doc: &Doc, number: u32) -> i32
     ensures { result ≡ priority_of doc.now number }
 {

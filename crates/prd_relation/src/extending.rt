@@ -17,7 +17,7 @@ use std::alloc::Global;
 ///
 /// The cost of a pattern is the number of rows times the number of facts.
 ///
-/// Source: RIF-PRD, "Matching substitution" and "Satisfaction of a condition".
+/// Source: RIF-PRD, "Matching substitution" and "Condition satisfaction".
 #[cycle(through)]
 pub fn rows_through(
     alloc: Global,

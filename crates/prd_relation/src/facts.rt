@@ -11,7 +11,7 @@ use std::marker::Model;
 
 /// A state of facts. Contracts see it as the list of its facts, in order and without repeats.
 ///
-/// Source: RIF-PRD, "States of the fact base".
+/// Source: RIF-PRD, "Condition satisfaction".
 #[derive(Debug, Drop)]
 pub struct Facts {
     items: Listed<Fact>,

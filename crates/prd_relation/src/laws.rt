@@ -1,7 +1,7 @@
 //! What the words of histories and of the choice promise. Each law is the clause of a function with an
 //! empty body, and its statement stands in specs/Laws.antt.
 //!
-//! Source: RIF-PRD, "Conflict set" and "Conflict resolution".
+//! Source: RIF-PRD, "Operational semantics of a production rule system" and "Conflict resolution".
 ghost use Rattle.prd_relation.specs.Laws.{AreConflictSetsSets, AreAgesSaid, IsRefractionSaid, AreOthersUnaged, ChoosesUnrefracted, ChoosesWhereItCan};
 
 /// Law: a conflict set has its instances in order, each once.

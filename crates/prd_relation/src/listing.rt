@@ -17,7 +17,7 @@ use std::alloc::Global;
 /// A pattern in the formula is tried on each fact for each row that comes to it, so the cost is up to the
 /// number of facts to the power of the number of patterns. What is found is then sorted.
 ///
-/// Source: RIF-PRD, "Matching substitution" and "Satisfaction of a condition".
+/// Source: RIF-PRD, "Matching substitution" and "Condition satisfaction".
 pub fn matches(
     alloc: Global,
     facts: &Facts,
@@ -38,7 +38,8 @@ pub fn matches(
 /// tried on each fact for each row that comes to it. A document of more rules than a `u32` counts is out
 /// of memory.
 ///
-/// Source: RIF-PRD, "Conflict set" and "Rule instance".
+/// Source: RIF-PRD, "Operational semantics of a production rule system" and "Definitions and notational
+/// conventions".
 pub fn list_instances(
     alloc: Global,
     doc: &Doc,

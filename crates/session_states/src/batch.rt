@@ -1,7 +1,9 @@
-ghost use Rattle.std.specs.Prelude.{◌≡◌, [], IfOk};
-ghost use Rattle.session_states.specs.Batches.{IsLawful};
+ghost use Rattle.std.specs.Prelude.{◌≡◌, ◌↔◌, [], IfOk, IsTrue};
+ghost use Rattle.std.specs.List.{list_any};
+ghost use Rattle.session_states.specs.Batches.{ends_batch, EndsLast, IsLawful};
 
-use crate::item::Entry;
+use crate::item::{Entry, Item};
+use rif_terms::limits::MOST_BATCH_ITEMS;
 use rif_terms::{Listed, OutOfMemory};
 use std::alloc::{AllocError, Global};
 use std::marker::Model;
@@ -40,6 +42,13 @@ impl Batch {
         }
     }
 
+    /// Whether these entries may be one batch.
+    pub fn is_lawful(entries: &[Entry]) -> bool
+        ensures { IsTrue result ↔ IsLawful entries.now }
+    {
+        entries.len() <= MOST_BATCH_ITEMS && is_ended_last(entries)
+    }
+
     /// The batch of these entries, in constant time.
     pub fn from_entries(entries: Listed<Entry>) -> Batch
         requires { IsLawful entries }
@@ -71,5 +80,31 @@ impl Clone for Batch {
         Ok(Batch {
             entries: self.entries.clone()?,
         })
+    }
+}
+
+// Whether no entry but the last ends a batch.
+fn is_ended_last(entries: &[Entry]) -> bool
+    ensures { IsTrue result ↔ EndsLast entries.now }
+{
+    match entries.split_last() {
+        Some((_, before)) => !has_ending(before),
+        None => true,
+    }
+}
+
+// Whether one of the entries ends a batch.
+fn has_ending(entries: &[Entry]) -> bool
+    ensures { result ≡ list_any (λ entry. ends_batch entry.item) entries.now }
+{
+    entries.iter().any(|entry| is_ending(&entry.item))
+}
+
+fn is_ending(item: &Item) -> bool
+    ensures { result ≡ ends_batch item.now }
+{
+    match item {
+        Item::Halt | Item::Dispose => true,
+        Item::Change(_) | Item::Fire(_) | Item::Until(_) => false,
     }
 }

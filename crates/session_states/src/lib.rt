@@ -13,6 +13,8 @@
 mod batch;
 mod item;
 mod state;
+#[cfg(test)]
+mod tests;
 mod turn;
 
 pub use batch::Batch;
