@@ -26,7 +26,7 @@ pub fn tokens(alloc: Global, bytes: &[u8]) -> Result<Tokens, Fault>
         let at = broken.valid_up_to() as u64;
         return Err(Fault::Refused(Refusal::NotUtf8 { at }));
     }
-    let mut found = Vec::with_capacity(alloc, bytes.len() / 2)?;
+    let mut found = Vec::new(alloc);
     push_tokens(&mut found, bytes)?;
     Ok(Tokens::from_vec(found))
 }
