@@ -141,7 +141,8 @@ token_of_form k text form =
 form_of_token : (k : Kind) (text : List ℕ) → piece_at text ≡ Lexeme k (length text) → HasForm k text []
 form_of_token k text is =
     let at = piece_splits k (length text) text is in
-    let front : at.front ≡ text = sym (split_front k (length text) text at) ∙ take_all (length text) text (omega arith) in
+    let front : at.front ≡ text =
+    sym (split_front k (length text) text at) ∙ take_all (length text) text (omega arith) in
     let whole : at.front ++ at.rest ≡ at.front ++ [] = sym at.whole ∙ (sym front ∙ sym (append-nil at.front)) in
     let rest : at.rest ≡ [] = append_cancel_left at.front at.rest [] whole in
     subst (λ (x : List ℕ). HasForm k x []) front (subst (HasForm k at.front) rest at.form)

@@ -8,7 +8,7 @@
 //! | `scan.rt` | how far names, digits, strings, IRIs and annotations go | `specs/Pieces.antt` |
 //! | `class.rt` | characters by their bytes | `specs/Characters.antt` |
 //! | `place.rt` | lines and columns | `specs/Places.antt` |
-//! | `laws.rt` | laws of the definitions, with empty bodies | `specs/Forms.antt`, `specs/Cutting.antt`, `specs/Spelling.antt` |
+//! | `laws.rt` | laws of the definitions, with empty bodies | `specs/Forms`, `Cutting`, `Spelling`, `Constants` |
 //!
 //! Begin at `tokens`.
 #![tactic(auto)]
