@@ -1,7 +1,7 @@
 -- A token stays it where something else follows that it ends before.
 use Rattle.std.proofs.Common.{◌≡◌, ℕ, List, [], ◌∷◌, ◌++◌, length, take, refl, ap, ◌∙◌, sym, subst, arith, true, false, not}
 use Rattle.std.proofs.lemmas.Bool.{not-true}
-use Rattle.std.proofs.lemmas.List.{append-nil, take_at, take_all}
+use Rattle.std.proofs.lemmas.List.{append-nil, append_cancel_left, take_at, take_all}
 use Rattle.rif_lex.specs.declared.class.Class.{Class}
 use Rattle.rif_lex.specs.declared.class.Class.TheVariants.{Minus}
 use Rattle.rif_lex.specs.declared.token.Kind.{Kind}
@@ -10,7 +10,7 @@ use Rattle.rif_lex.specs.declared.piece.Piece.TheVariants.{Lexeme}
 use Rattle.rif_lex.specs.Characters.{class_at, begins, begins_name, is_name}
 use Rattle.rif_lex.specs.Pieces.{piece_at}
 use Rattle.rif_lex.specs.Forms.{AreNames, IsWord, IsCurie, IsNamed, HasForm}
-use Rattle.rif_lex.specs.Spelling.{ends_name, ends_before}
+use Rattle.rif_lex.specs.Spelling.{FormsAreTokens, ends_name, ends_before}
 use Rattle.rif_lex.proofs.TestLemmas.{both, both_not}
 use Rattle.rif_lex.proofs.FormLemmas.{CannotGoOn, piece_of_form}
 use Rattle.rif_lex.proofs.SplitLemmas.{IsSplit, piece_splits}
@@ -128,3 +128,24 @@ piece_at-append k text rest is ends =
     ∙ take_all (length text) text (omega arith) in
     subst (λ (x : List ℕ). piece_at (x ++ rest) ≡ Lexeme k (length text)) whole
     (front_piece k (length text) text rest at ends)
+
+-- Nothing goes on a token at the end.
+stops_at_end : (k : Kind) (text : List ℕ) → HasForm k text [] → CannotGoOn k []
+stops_at_end k text form = (followed k text [] [] (ends_at_end k) form).1
+
+token_of_form : (k : Kind) (text : List ℕ) → HasForm k text [] → piece_at text ≡ Lexeme k (length text)
+token_of_form k text form =
+    subst (λ (x : List ℕ). piece_at x ≡ Lexeme k (length text)) (append-nil text)
+    (piece_of_form k text [] form (stops_at_end k text form))
+
+form_of_token : (k : Kind) (text : List ℕ) → piece_at text ≡ Lexeme k (length text) → HasForm k text []
+form_of_token k text is =
+    let at = piece_splits k (length text) text is in
+    let front : at.front ≡ text =
+    sym (split_front k (length text) text at) ∙ take_all (length text) text (omega arith) in
+    let whole : at.front ++ at.rest ≡ at.front ++ [] = sym at.whole ∙ (sym front ∙ sym (append-nil at.front)) in
+    let rest : at.rest ≡ [] = append_cancel_left at.front at.rest [] whole in
+    subst (λ (x : List ℕ). HasForm k x []) front (subst (HasForm k at.front) rest at.form)
+
+pub forms_are_tokens : FormsAreTokens
+forms_are_tokens k text = (form_of_token k text, token_of_form k text)

@@ -12,3 +12,4 @@ pub mod LexingLemmas
 pub mod SpellingLemmas
 pub mod CuttingLemmas
 pub mod SpanLemmas
+pub mod ConstantLemmas

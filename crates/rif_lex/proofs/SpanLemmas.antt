@@ -14,7 +14,7 @@ use Rattle.rif_lex.specs.Scanning.{FitsIn}
 use Rattle.rif_lex.proofs.FitLemmas.{piece_fits}
 use Rattle.rif_lex.proofs.LineLemmas.{lexeme_in_line}
 use Rattle.rif_lex.proofs.FollowLemmas.{piece_alone}
-use Rattle.rif_lex.proofs.CuttingLemmas.{tokens_are_cut}
+use Rattle.rif_lex.proofs.CuttingLemmas.{cut_of_tokens}
 
 -- spans that rise from one byte on rise from each before it
 rises_before : (ts : List Token) (low from to : ℕ) → low ≤ from → AreRising from ts to → AreRising low ts to
@@ -32,7 +32,7 @@ among_rise (Lexeme k n ∷ ps) text from to cut =
 
 pub spans_rise : SpansRise
 spans_rise text ts e =
-    let whole = tokens_are_cut text ts e in
+    let whole = cut_of_tokens text ts e in
     subst (λ us. AreRising 0 us (length text)) (sym whole.tokens)
     (among_rise whole.pieces text 0 (length text) whole.cut)
 
@@ -45,7 +45,7 @@ among_few (Lexeme k n ∷ ps) text from to cut = omega (arith, cut.1, among_few 
 
 pub few_tokens : FewTokens
 few_tokens text ts e =
-    let whole = tokens_are_cut text ts e in
+    let whole = cut_of_tokens text ts e in
     omega (arith, among_few whole.pieces text 0 (length text) whole.cut, ap length whole.tokens)
 
 abbrev IsPlaced : List ℕ → Token → Type 0
@@ -59,7 +59,7 @@ among_placed (Lexeme k n ∷ ps) text from = ((refl, refl), among_placed ps text
 
 pub tokens_are_placed : TokensArePlaced
 tokens_are_placed text ts e =
-    let whole = tokens_are_cut text ts e in
+    let whole = cut_of_tokens text ts e in
     All-from_recursion (IsPlaced text) ts
     (subst (AllByRecursion (IsPlaced text)) (sym whole.tokens) (among_placed whole.pieces text 0))
 
@@ -88,7 +88,7 @@ among_slices (Lexeme k n ∷ ps) text from to cut = (
 
 pub slices_are_tokens : SlicesAreTokens
 slices_are_tokens text ts e =
-    let whole = tokens_are_cut text ts e in
+    let whole = cut_of_tokens text ts e in
     All-from_recursion (IsSlice text) ts
     (subst (AllByRecursion (IsSlice text)) (sym whole.tokens)
     (among_slices whole.pieces text 0 (length text) whole.cut))

@@ -1,6 +1,6 @@
 -- How a text is cut into pieces, one behind another, and which tokens these are.
 -- Source: the project's own (docs/FORMATS.md, "Tokens").
-use Rattle.std.specs.Prelude.{◌≡◌, ℕ, ◌+◌, ◌≤◌, ◌<◌, List, [], ◌∷◌, length, drop, All, Ok, Err}
+use Rattle.std.specs.Prelude.{◌≡◌, ◌↔◌, ℕ, ◌+◌, ◌≤◌, ◌<◌, List, [], ◌∷◌, length, drop, All, Ok, Err}
 use Rattle.rif_terms.specs.declared.refusal.Refusal.{Refusal}
 use Rattle.rif_terms.specs.declared.refusal.Refusal.TheVariants.{BadToken}
 use Rattle.rif_lex.specs.declared.token.Token.{Token}
@@ -31,16 +31,17 @@ tokens_among text from (Lexeme kind n ∷ ps) =
     record { kind = kind; start = from; end = from + n; line = line_at text from; col = column_at text from }
     ∷ tokens_among text (from + n) ps
 
--- Law: a text that has tokens is cut into pieces to its end, and its tokens are those among them.
+-- the text is cut into pieces to its end, and the tokens are those among them
 pub record IsCut (text : List ℕ) (ts : List Token) : Type 0 where
   pub pieces : List Piece
   pub cut : AreCut text 0 pieces (length text)
   pub tokens : ts ≡ tokens_among text 0 pieces
 
+-- Law: a text has these tokens exactly where it is cut into pieces to its end, and the tokens are those among them.
 abbrev pub TokensAreCut : Type 0
-TokensAreCut = (text : List ℕ) (ts : List Token) → tokens_of text ≡ Ok ts → IsCut text ts
+TokensAreCut = (text : List ℕ) (ts : List Token) → (tokens_of text ≡ Ok ts) ↔ IsCut text ts
 
--- Law: what can't be read is the first such: all before it is cut into pieces, and no piece begins there.
+-- the refusal stands at the first place that can't be read: all before it is cut into pieces, and no piece begins there
 pub record IsFirstUnreadable (text : List ℕ) (refusal : Refusal) : Type 0 where
   pub at : ℕ
   pub within : at < length text
@@ -49,8 +50,10 @@ pub record IsFirstUnreadable (text : List ℕ) (refusal : Refusal) : Type 0 wher
   pub unreadable : piece_at (drop at text) ≡ Unreadable
   pub is : refusal ≡ BadToken (line_at text at) (column_at text at)
 
+-- Law: a text has this refusal exactly where it stands at the first place that can't be read.
 abbrev pub BadTokenIsFirst : Type 0
-BadTokenIsFirst = (text : List ℕ) (refusal : Refusal) → tokens_of text ≡ Err refusal → IsFirstUnreadable text refusal
+BadTokenIsFirst = (text : List ℕ) (refusal : Refusal) →
+    (tokens_of text ≡ Err refusal) ↔ IsFirstUnreadable text refusal
 
 -- from one byte on up to another: each token begins where the one before it ended or later, and has a byte at least
 abbrev pub AreRising : ℕ → List Token → ℕ → Type 0

@@ -1,6 +1,5 @@
 -- The forms of tokens, as the table of tokens has them, each by what a text is put together from; and which of them
--- stands
--- at the front of a text: the longest.
+-- stands at the front of a text: the longest.
 -- Source: the project's own (docs/FORMATS.md, "Tokens").
 use Rattle.std.specs.Prelude.{◌≡◌, ◌⊎◌, ◌↔◌, ℕ, ◌+◌, ◌≤◌, ◌<◌, ◌==◌, ◌||◌, not, Bool, true, false, List, [], ◌∷◌, ◌++◌, length, take, drop, codes}
 use Rattle.std.specs.List.{flat_map, AllByRecursion}

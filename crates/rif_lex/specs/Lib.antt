@@ -6,3 +6,4 @@ pub mod Cutting
 pub mod Spelling
 pub mod Forms
 pub mod Scanning
+pub mod Constants

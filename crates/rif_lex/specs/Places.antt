@@ -1,4 +1,4 @@
--- Lines and columns. Lines are counted from 1 by line feeds, columns from 1 by characters.
+-- Lines and columns. A line ends at each line feed, and each character is one column; both are counted from 1.
 -- Source: the project's own (docs/FORMATS.md, "Tokens").
 use Rattle.std.specs.Prelude.{ℕ, ◌+◌, ◌==◌, ◌||◌, not, Bool, false, if◌then◌else◌, List, [], ◌∷◌, suc, take}
 use Rattle.rif_lex.specs.declared.place.Place.{Place}

@@ -1,6 +1,6 @@
 -- Tokens by their kinds and texts, and as they are written one behind another.
 -- Source: the project's own (docs/FORMATS.md, "Tokens").
-use Rattle.std.specs.Prelude.{◌≡◌, ℕ, ◌-◌, ◌&&◌, not, Bool, true, List, [], ◌∷◌, ◌++◌, length, take, drop, map, All, Ok}
+use Rattle.std.specs.Prelude.{◌≡◌, ◌↔◌, ℕ, ◌-◌, ◌&&◌, not, Bool, true, List, [], ◌∷◌, ◌++◌, length, take, drop, map, All, Ok}
 use Rattle.rif_lex.specs.declared.token.Kind.{Kind}
 use Rattle.rif_lex.specs.declared.token.Kind.TheVariants.{Word, Curie, Local, Var, Int, Open, Hash}
 use Rattle.rif_lex.specs.declared.token.Token.{Token}
@@ -9,6 +9,7 @@ use Rattle.rif_lex.specs.Characters.{begins, begins_name}
 use Rattle.rif_lex.specs.Pieces.{piece_at}
 use Rattle.rif_lex.specs.Places.{line_feeds}
 use Rattle.rif_lex.specs.Lexing.{tokens_of}
+use Rattle.rif_lex.specs.Forms.{HasForm}
 
 -- a token's kind and text
 pub record Written : Type 0 where
@@ -27,6 +28,11 @@ IsToken w = piece_at w.text ≡ Lexeme w.kind (length w.text)
 abbrev pub SlicesAreTokens : Type 0
 SlicesAreTokens = (text : List ℕ) (ts : List Token) → tokens_of text ≡ Ok ts →
     All (λ t. IsToken (written text t) × (line_feeds (written text t).text ≡ 0)) ts
+
+-- Law: a text is, alone, one token of a kind exactly where it has the kind's form, with nothing behind it.
+abbrev pub FormsAreTokens : Type 0
+FormsAreTokens = (kind : Kind) (text : List ℕ) →
+    IsToken (record { kind = kind; text = text }) ↔ HasForm kind text []
 
 -- what stands between two tokens
 pub data Gap : Type 0 where

@@ -1,7 +1,8 @@
 ghost use Rattle.rif_lex.specs.Lexing.{InputsAreTexts};
 ghost use Rattle.rif_lex.specs.Forms.{TokensAreLongest, BlanksAreWhite};
 ghost use Rattle.rif_lex.specs.Cutting.{TokensAreCut, BadTokenIsFirst, SpansRise, TokensArePlaced, FewTokens};
-ghost use Rattle.rif_lex.specs.Spelling.{SlicesAreTokens, SpelledIsLexed};
+ghost use Rattle.rif_lex.specs.Constants.{ConstantsAreTokens};
+ghost use Rattle.rif_lex.specs.Spelling.{FormsAreTokens, SlicesAreTokens, SpelledIsLexed};
 
 /// Law: an input has tokens exactly where it isn't too long, is UTF-8, and its text has them.
 pub fn inputs_are_texts()
@@ -19,14 +20,14 @@ pub fn blanks_are_white()
     ensures { BlanksAreWhite }
 {}
 
-/// Law: a text that has tokens is cut into pieces to its end, and its tokens are those among them.
-#[tactic(auto, using(crate::proofs::CuttingLemmas::tokens_are_cut))]
+/// Law: a text has these tokens exactly where it is cut into pieces to its end, and the tokens are
+/// those among them.
 pub fn tokens_are_cut()
     ensures { TokensAreCut }
 {}
 
-/// Law: where a token can't be read, all before it is cut into pieces, and no piece begins there.
-#[tactic(auto, using(crate::proofs::CuttingLemmas::bad_token_is_first))]
+/// Law: a text has this refusal exactly where it stands at the first place that can't be read: all
+/// before it is cut into pieces, and no piece begins there.
 pub fn bad_token_is_first()
     ensures { BadTokenIsFirst }
 {}
@@ -51,6 +52,17 @@ pub fn tokens_are_placed()
 #[tactic(auto, using(crate::proofs::SpanLemmas::few_tokens))]
 pub fn few_tokens()
     ensures { FewTokens }
+{}
+
+/// Law: a text is, alone, one token of a kind exactly where it has the kind's form, with nothing
+/// behind it. So what is spelled in the form of a token is that token.
+pub fn forms_are_tokens()
+    ensures { FormsAreTokens }
+{}
+
+/// Law: a constant as it is written is one token.
+pub fn constants_are_tokens()
+    ensures { ConstantsAreTokens }
 {}
 
 /// Law: tokens that are written one behind another, each where it ends, are lexed to these tokens.
