@@ -1,6 +1,8 @@
 pub mod ActionLemmas
 pub mod AsciiLemmas
+pub mod CallerLemmas
 pub mod DocumentLemmas
+pub mod FactLemmas
 pub mod FormulaLemmas
 pub mod FrontLemmas
 pub mod LeavesLemmas

@@ -1,3 +1,4 @@
+pub mod FactForm
 pub mod FirstForm
 pub mod Leaves
 pub mod Numbers

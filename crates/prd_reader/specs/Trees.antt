@@ -1,5 +1,6 @@
--- The grammar of documents, as far as the first form has it: one constructor for each alternative, and the
--- leaves that each tree is spelled with. A list is spelled with the bracket that ends it.
+-- The grammar of documents, as far as the first form has it and a little wider (several rules, a rule in a
+-- `Forall`, `And` in `And`): one constructor for each alternative, and the leaves that each tree is spelled
+-- with. A list is spelled with the bracket that ends it.
 -- Source: the project's own (docs/FORMATS.md, "Grammar").
 use Rattle.std.specs.Prelude.{ℤ, ℕ, List, [], ◌∷◌, ◌++◌, codes}
 use Rattle.std.specs.Fmt.{signed_decimal}

@@ -34,7 +34,7 @@ mod term;
 
 pub use document::read_doc;
 pub use fact::read_fact;
-pub use laws::one_document;
+pub use laws::{facts_are_spelled, numbers_are_spelled, one_document};
 pub use leaves::Leaves;
 pub use refusing::left_out;
 pub use spacing::{are_ascii, are_spaced};

@@ -1,6 +1,6 @@
 ghost use Rattle.std.specs.Prelude.{◌≡◌, IfOk};
 ghost use Rattle.rif_script.specs.RefusalLine.{refusal_line};
-ghost use Rattle.rif_run.specs.Answer.{Answers};
+ghost use Rattle.rif_run.specs.Answer.{IsAnswerTo};
 
 use crate::job::run_text;
 use crate::status::Status;
@@ -17,7 +17,7 @@ pub struct Answer {
 
 /// The answer to an input: the text of its run with `Done`, or the line of its refusal with `Refused`.
 pub fn answer_to(alloc: Global, input: &[u8]) -> Result<Answer, OutOfMemory>
-    ensures { IfOk result (λ answer. Answers input.now answer.status answer.text.items) }
+    ensures { IfOk result (λ answer. IsAnswerTo input.now answer.status answer.text.items) }
 {
     match run_text(alloc, input) {
         Ok(text) => Ok(Answer {

@@ -1,5 +1,6 @@
-ghost use Rattle.std.specs.Prelude.{IfOk};
+ghost use Rattle.std.specs.Prelude.{IfErr, IfOk};
 ghost use Rattle.rif_script.specs.Cutting.{HasItsClients};
+ghost use Rattle.rif_script.specs.Jobs.{RefusesJob};
 ghost use Rattle.rif_run.specs.Job.{IsRunOf, IsRunText};
 
 use prd_relation::replay_plain;
@@ -10,7 +11,8 @@ use std::alloc::Global;
 /// The text of the run of the job that the bytes are, or why there is none. The run is the plain
 /// program's, whose cost grows with the state.
 pub fn run_text(alloc: Global, bytes: &[u8]) -> Result<Vec<u8>, Fault>
-    ensures { IfOk result (λ text. IsRunText text.items) }
+    ensures ok { IfOk result (λ text. IsRunText bytes.now text.items) }
+    ensures refused { IfErr result (RefusesJob bytes.now) }
 {
     let job = read_job(alloc, bytes)?;
     Ok(text_of_job(alloc, &job)?)

@@ -1,7 +1,13 @@
 pub mod ClientLemmas
 pub mod CuttingLemmas
+pub mod JobLemmas
 pub mod LawLemmas
+pub mod NumberingLemmas
 pub mod RankLemmas
+pub mod LineFormLemmas
+pub mod ReadingLemmas
+pub mod ScriptFormLemmas
 pub mod ScriptLemmas
 pub mod TakingLemmas
+pub mod TextLineLemmas
 pub mod TraceLemmas

@@ -2,7 +2,10 @@ pub mod Cutting
 pub mod CuttingLaws
 pub mod Faults
 pub mod InMemory
+pub mod JobParts
+pub mod Jobs
 pub mod Lines
+pub mod ReadingLines
 pub mod RefusalLine
 pub mod Standard
 pub mod Trace

@@ -1,66 +1,65 @@
-ghost use Rattle.std.specs.Prelude.{◌<◌, ◌≤◌, length};
+ghost use Rattle.std.specs.Prelude.{◌≡◌, ℕ, drop, take};
+ghost use Rattle.rif_script.specs.Jobs.{document_text, is_separator, lines_of, script_lines};
+ghost use Rattle.rif_script.specs.ReadingLines.{line_length};
 
-/// Where the document of a job ends, and where its script begins, in bytes from 0. Without a line `%%`
-/// both are the job's end.
+/// The document of a job, and its script. Without a line `%%` the script is empty.
 #[derive(Clone, Copy, Debug)]
-pub struct Parts {
-    pub document_end: usize,
-    pub script_start: usize,
+pub struct Parts<'a> {
+    pub document: &'a [u8],
+    pub script: &'a [u8],
 }
 
 /// The parts of a job: the document is what stands before the first line that is exactly `%%`, which one
 /// carriage return may end, and the script what stands behind it. The cost is the document's length.
 ///
 /// Source: our own (docs/FORMATS.md, "Jobs").
-pub fn parts_of(bytes: &[u8]) -> Parts
-    ensures document { result.document_end ≤ length bytes.now }
-    ensures script { result.script_start ≤ length bytes.now }
+pub fn parts_of(bytes: &[u8]) -> Parts<'_>
+    ensures document { result.document.now ≡ document_text bytes.now }
+    ensures script { lines_of result.script.now ≡ script_lines bytes.now }
+    ensures last { (from : ℕ) × (result.script.now ≡ drop from bytes.now) }
 {
     let mut at = 0;
     while at < bytes.len() {
-        if is_separator(&bytes[at..]) {
+        let (line, behind) = first_line(&bytes[at..]);
+        if is_separator(line) {
             return Parts {
-                document_end: at,
-                script_start: after_line(bytes, at),
+                document: &bytes[..at],
+                script: behind,
             };
         }
-        at = after_line(bytes, at);
+        at += line.len();
     }
     Parts {
-        document_end: at,
-        script_start: at,
+        document: bytes,
+        script: &bytes[at..],
     }
 }
 
-// Whether a line `%%` is at the front.
-fn is_separator(text: &[u8]) -> bool {
-    match text {
-        [b'%', b'%'] | [b'%', b'%', b'\n' | b'\r'] => true,
-        [b'%', b'%', b'\n', _, ..] => true,
-        [b'%', b'%', b'\r', b'\n', ..] => true,
-        _ => false,
-    }
-}
-
-/// Where the line at a place ends: at its line feed, or at the end of the text.
-pub fn line_end(text: &[u8], from: usize) -> usize
-    requires { from ≤ length text.now }
-    ensures low { from ≤ result }
-    ensures high { result ≤ length text.now }
+// Whether a line is `%%`, which one carriage return may end.
+fn is_separator(line: &[u8]) -> bool
+    ensures { result ≡ is_separator line.now }
 {
-    let mut at = from;
+    line == b"%%\n".as_slice()
+        || line == b"%%\r\n".as_slice()
+        || line == b"%%".as_slice()
+        || line == b"%%\r".as_slice()
+}
+
+/// The first line of a text with its line feed, and what stands behind it. The cost is the line's length.
+pub fn first_line(text: &[u8]) -> (&[u8], &[u8])
+    ensures line { result.0.now ≡ take (line_length text.now) text.now }
+    ensures behind { result.1.now ≡ drop (line_length text.now) text.now }
+{
+    text.split_at(line_length(text))
+}
+
+// How many bytes the first line of a text has, with its line feed.
+fn line_length(text: &[u8]) -> usize
+    ensures { result ≡ line_length text.now }
+{
+    let mut at = 0;
     while at < text.len() && text[at] != b'\n' {
         at += 1;
     }
-    at
-}
-
-/// Where the line behind the one at a place begins.
-pub fn after_line(text: &[u8], from: usize) -> usize
-    requires { from < length text.now }
-    ensures low { from < result }
-    ensures high { result ≤ length text.now }
-{
-    let end = line_end(text, from);
-    if end < text.len() { end + 1 } else { end }
+    if at < text.len() { at + 1 } else { at }
 }

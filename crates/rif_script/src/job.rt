@@ -1,10 +1,13 @@
-ghost use Rattle.std.specs.Prelude.{IfOk};
+ghost use Rattle.std.specs.Prelude.{◌≡◌, ◌≤◌, IfErr, IfOk, length};
+ghost use Rattle.std.specs.Str.{IsAscii};
 ghost use Rattle.rif_script.specs.Cutting.{HasItsClients};
+ghost use Rattle.rif_script.specs.JobParts.{RefusesDocument};
+ghost use Rattle.rif_script.specs.Jobs.{IsDocument, IsFirstFormJob, RefusesJob};
 
 use crate::document_part::parts_of;
 use crate::script::{Script, read_script};
-use prd_reader::{left_out, read_doc};
-use rif_lex::{Tokens, tokens};
+use crate::tokens_read::read_tokens;
+use prd_reader::{are_ascii, left_out, read_doc};
 use rif_terms::limits::MOST_INPUT_BYTES;
 use rif_terms::{Doc, Fault, Listed, Refusal, Text};
 use session_states::Item;
@@ -27,27 +30,27 @@ pub struct Job {
 /// Source: our own (docs/FORMATS.md, "Jobs" and "The first form").
 pub fn read_job(alloc: Global, bytes: &[u8]) -> Result<Job, Fault>
     ensures clients { IfOk result HasItsClients }
+    ensures read { IfOk result (IsFirstFormJob bytes.now) }
+    ensures refused { IfErr result (RefusesJob bytes.now) }
 {
     if bytes.len() > MOST_INPUT_BYTES {
         return Err(Fault::Refused(Refusal::InputTooLong));
     }
+    if !are_ascii(bytes) {
+        return Err(left_out());
+    }
     let parts = parts_of(bytes);
-    let doc = read_document(alloc, &bytes[..parts.document_end])?;
-    let script = read_script(alloc, &bytes[parts.script_start..])?;
+    let doc = read_document(alloc, parts.document)?;
+    let script = read_script(alloc, parts.script)?;
     let Script { names, items, .. } = script;
     Ok(Job { doc, names, items })
 }
 
-fn read_document(alloc: Global, bytes: &[u8]) -> Result<Doc, Fault> {
+// The document that the bytes are.
+fn read_document(alloc: Global, bytes: &[u8]) -> Result<Doc, Fault>
+    ensures read { IfOk result (IsDocument bytes.now) }
+    ensures refused { IfErr result (RefusesDocument bytes.now) }
+{
     let found = read_tokens(alloc, bytes)?;
     read_doc(alloc, &found, bytes)
-}
-
-/// The tokens of a part of a job.
-pub fn read_tokens(alloc: Global, bytes: &[u8]) -> Result<Tokens, Fault> {
-    match tokens(alloc, bytes) {
-        Ok(found) => Ok(found),
-        Err(Fault::Refused(_)) => Err(left_out()),
-        Err(Fault::OutOfMemory) => Err(Fault::OutOfMemory),
-    }
 }

@@ -1,6 +1,12 @@
 //! Laws of the definitions: functions without parameters, whose bodies are empty.
 ghost use Rattle.rif_script.specs.CuttingLaws.{CutEndsBatches, CutIsLawful, CutKeepsAll, EntriesFollowScripts};
+ghost use Rattle.rif_script.specs.Jobs.{OneJob};
 ghost use Rattle.rif_script.specs.TraceLaws.{SameTextSameRun};
+
+/// Law: an input is one job of the first form at most.
+pub fn one_job()
+    ensures { OneJob }
+{}
 
 /// Law: the batches of a script joined, and then what is left, are all its entries in order.
 pub fn cut_keeps_all()

@@ -2,14 +2,15 @@
 //!
 //! | File | Has | Its words |
 //! |---|---|---|
-//! | `job.rt` | `Job`, a document and the items of its clients; `read_job` | |
-//! | `document_part.rt` | where a job's document ends and its script begins | |
-//! | `script.rt`, `script_line.rt` | the clients and items of a script, and what a line of it is | |
+//! | `job.rt` | `Job`, a document and the items of its clients; `read_job` | `specs/Jobs.antt` |
+//! | `document_part.rt` | a job's document and its script, and the lines of a text | `specs/Jobs.antt` |
+//! | `script.rt`, `script_line.rt` | the clients and items of a script, and what a line of it is | `specs/Jobs.antt` |
+//! | `tokens_read.rt` | the tokens of a part of a job | |
 //! | `cutting.rt` | `batches_of`, the batches of a job for one thread | `specs/Cutting.antt` |
 //! | `lines.rt` | the lines of items | `specs/Lines.antt` |
 //! | `trace.rt` | `write_run`, the text of a run: a trace line is made here | `specs/Trace.antt` |
 //! | `refusal_line.rt` | `write_refusal`, the line of a refused input | `specs/RefusalLine.antt` |
-//! | `laws.rt` | what the cut keeps, and what a text determines | `specs/CuttingLaws.antt`, `specs/TraceLaws.antt` |
+//! | `laws.rt` | what the cut keeps, and what a text determines | `specs/Jobs.antt`, `specs/CuttingLaws.antt`, `specs/TraceLaws.antt` |
 //! | `source.rt`, `sink.rt` | `Source` and `Sink`, what gives bytes and what takes them | `specs/Faults.antt` |
 //! | `failed.rt` | `Failed`, a call that moved no byte | |
 //! | `memory_source.rt`, `memory_sink.rt` | `MemSource` and `MemSink`, the two in memory | `specs/InMemory.antt` |
@@ -36,6 +37,7 @@ mod source;
 mod standard;
 #[cfg(test)]
 mod tests;
+mod tokens_read;
 mod trace;
 
 pub use cutting::batches_of;

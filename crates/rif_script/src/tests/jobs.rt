@@ -173,6 +173,24 @@ fn the_script_is_read(rt: HostRuntime) -> Result<(), Fail> {
 }
 
 #[test]
+fn clients_are_numbered_by_their_first_lines(rt: HostRuntime) -> Result<(), Fail> {
+    let script = b"Document()\n%%\nb fire 1\n# a comment\na fire 2\n\nb fire 3";
+    let Job { names, items, .. } = read_job(rt.alloc(), script)?;
+    let wanted_names: [&[u8]; 2] = [b"b", b"a"];
+    assert_eq!(rt; names.len(), 2);
+    for (name, wanted) in names.as_slice().iter().zip(wanted_names.iter()) {
+        assert_eq!(rt; name.bytes(), *wanted);
+    }
+    let wanted: [(u32, Item); 3] = [(0, Item::Fire(1)), (1, Item::Fire(2)), (0, Item::Fire(3))];
+    assert_eq!(rt; items.len(), 3);
+    for (item, wanted) in items.as_slice().iter().zip(wanted.iter()) {
+        assert_eq!(rt; item.0, wanted.0);
+        assert!(rt; item.1 == wanted.1);
+    }
+    Ok(())
+}
+
+#[test]
 fn the_document_is_read(rt: HostRuntime) -> Result<(), Fail> {
     let job = read_job(rt.alloc(), SILVER)?;
     let shown = format!(in rt.alloc(); "{:?}", job.doc)?;
