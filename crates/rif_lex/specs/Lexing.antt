@@ -60,8 +60,8 @@ pub record IsInput (bytes : List ℕ) (ts : List Token) : Type 0 where
 abbrev pub InputsAreTexts : Type 0
 InputsAreTexts = (bytes : List ℕ) (ts : List Token) → (lexed bytes ≡ Ok ts) ↔ IsInput bytes ts
 
--- an input has the refusal: it is too long; else from some byte on, and not before it, it isn't UTF-8; else its text has
--- the refusal
+-- an input has the refusal: it is too long; else its longest front of UTF-8 ends at the byte; else its text has the
+-- refusal
 abbrev pub IsRefused : List ℕ → Refusal → Type 0
 IsRefused bytes InputTooLong = MOST_INPUT_BYTES < length bytes
 IsRefused bytes (NotUtf8 at) = (length bytes ≤ MOST_INPUT_BYTES) × IsValidUpTo bytes at

@@ -8,7 +8,7 @@
 //! | `scan.rt` | how far names, digits, strings, IRIs and annotations go | `specs/Pieces.antt` |
 //! | `class.rt` | characters by their bytes | `specs/Characters.antt` |
 //! | `place.rt` | lines and columns | `specs/Places.antt` |
-//! | `laws.rt` | laws of the definitions, with empty bodies | `specs/Lexing`, `Forms`, `Cutting`, `Spelling`, `Constants` |
+//! | `laws.rt` | laws of the definitions | `specs/Lexing`, `Forms`, `Cutting`, `Spelling`, `Constants` |
 //!
 //! Begin at `tokens`.
 #![tactic(auto)]
