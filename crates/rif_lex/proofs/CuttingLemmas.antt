@@ -187,7 +187,8 @@ unfolding Cuts
 cut_of_tokens text ts e = let whole = cuts_whole text (Ok ts) e in
     record { pieces = whole.pieces; cut = whole.cut; tokens = whole.tokens }
 
-first_of_refusal : (text : List ℕ) (refusal : Refusal) → tokens_of text ≡ Err refusal → IsFirstUnreadable text refusal
+pub first_of_refusal : (text : List ℕ) (refusal : Refusal) → tokens_of text ≡ Err refusal →
+    IsFirstUnreadable text refusal
 unfolding Cuts
 first_of_refusal text refusal e = let whole = cuts_whole text (Err refusal) e in record {
   at = whole.at;

@@ -13,3 +13,4 @@ pub mod SpellingLemmas
 pub mod CuttingLemmas
 pub mod SpanLemmas
 pub mod ConstantLemmas
+pub mod RefusalLemmas

@@ -1,7 +1,7 @@
 -- What an input leads to: all its tokens, in order and to its end, or the first refusal that stands.
 -- Source: the project's own (docs/FORMATS.md, "Tokens").
-use Rattle.std.specs.Prelude.{length, ◌≡◌, ◌≤◌, ◌↔◌, IsUtf8, ℕ, ◌+◌, pred, nat_lt, if◌then◌else◌, List, [], ◌∷◌, ◌++◌, suc, zero, Ok, Err}
-use Rattle.std.specs.Str.{is_utf8}
+use Rattle.std.specs.Prelude.{length, ◌≡◌, ◌≤◌, ◌<◌, ◌↔◌, IsUtf8, ℕ, ◌+◌, pred, nat_lt, if◌then◌else◌, List, [], ◌∷◌, ◌++◌, suc, zero, Ok, Err}
+use Rattle.std.specs.Str.{is_utf8, IsValidUpTo}
 use Rattle.std.specs.Str.Lossy.{utf8_valid_len}
 use Rattle.std.specs.declared.result.Result.{Result}
 use Rattle.rif_terms.specs.declared.limits.TheConstants.{MOST_INPUT_BYTES}
@@ -59,3 +59,16 @@ pub record IsInput (bytes : List ℕ) (ts : List Token) : Type 0 where
 
 abbrev pub InputsAreTexts : Type 0
 InputsAreTexts = (bytes : List ℕ) (ts : List Token) → (lexed bytes ≡ Ok ts) ↔ IsInput bytes ts
+
+-- an input has the refusal: it is too long; else its longest front of UTF-8 ends at the byte; else its text has the
+-- refusal
+abbrev pub IsRefused : List ℕ → Refusal → Type 0
+IsRefused bytes InputTooLong = MOST_INPUT_BYTES < length bytes
+IsRefused bytes (NotUtf8 at) = (length bytes ≤ MOST_INPUT_BYTES) × IsValidUpTo bytes at
+IsRefused bytes (BadToken line col) =
+    (length bytes ≤ MOST_INPUT_BYTES) × IsUtf8 bytes × (tokens_of bytes ≡ Err (BadToken line col))
+IsRefused bytes _ = ⊥
+
+-- Law: an input leads to a refusal exactly where it has it, and so to no other than these three.
+abbrev pub InputsAreRefused : Type 0
+InputsAreRefused = (bytes : List ℕ) (refusal : Refusal) → (lexed bytes ≡ Err refusal) ↔ IsRefused bytes refusal

@@ -1,4 +1,4 @@
-ghost use Rattle.rif_lex.specs.Lexing.{InputsAreTexts};
+ghost use Rattle.rif_lex.specs.Lexing.{InputsAreTexts, InputsAreRefused};
 ghost use Rattle.rif_lex.specs.Forms.{TokensAreLongest, BlanksAreWhite};
 ghost use Rattle.rif_lex.specs.Cutting.{TokensAreCut, BadTokenIsFirst, SpansRise, TokensArePlaced, FewTokens};
 ghost use Rattle.rif_lex.specs.Constants.{ConstantsAreTokens};
@@ -7,6 +7,12 @@ ghost use Rattle.rif_lex.specs.Spelling.{FormsAreTokens, SlicesAreTokens, Spelle
 /// Law: an input has tokens exactly where it isn't too long, is UTF-8, and its text has them.
 pub fn inputs_are_texts()
     ensures { InputsAreTexts }
+{}
+
+/// Law: an input leads to a refusal exactly where it has it: it is too long, or else not UTF-8 behind its
+/// longest front that is, or else its text has a place that can't be read.
+pub fn inputs_are_refused()
+    ensures { InputsAreRefused }
 {}
 
 /// Law: the token at the front of a text is the longest that has a form there, and there is one

@@ -8,7 +8,7 @@
 //! | `scan.rt` | how far names, digits, strings, IRIs and annotations go | `specs/Pieces.antt` |
 //! | `class.rt` | characters by their bytes | `specs/Characters.antt` |
 //! | `place.rt` | lines and columns | `specs/Places.antt` |
-//! | `laws.rt` | laws of the definitions, with empty bodies | `specs/Forms`, `Cutting`, `Spelling`, `Constants` |
+//! | `laws.rt` | laws of the definitions | `specs/Lexing`, `Forms`, `Cutting`, `Spelling`, `Constants` |
 //!
 //! Begin at `tokens`.
 #![tactic(auto)]
@@ -23,8 +23,8 @@ mod token;
 
 pub use laws::{
     bad_token_is_first, blanks_are_white, constants_are_tokens, few_tokens, forms_are_tokens,
-    inputs_are_texts, slices_are_tokens, spans_rise, spelled_is_lexed, tokens_are_cut,
-    tokens_are_longest, tokens_are_placed,
+    inputs_are_refused, inputs_are_texts, slices_are_tokens, spans_rise, spelled_is_lexed,
+    tokens_are_cut, tokens_are_longest, tokens_are_placed,
 };
 pub use lexer::tokens;
 pub use token::{Kind, Token, Tokens};

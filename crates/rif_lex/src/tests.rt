@@ -41,50 +41,18 @@ fn compare(rt: &impl Abort, alloc: Global, rows: &[(&str, &str)]) -> Result<(), 
 }
 
 #[test]
-fn each_kind_at_its_shortest(rt: HostRuntime) -> Result<(), Fail> {
-    compare(&rt, rt.alloc(), SHORTEST)?;
+fn each_token_at_its_shortest_and_at_its_edges(rt: HostRuntime) -> Result<(), Fail> {
+    for rows in [SHORTEST, NAMES, NUMBERS, STRINGS, SIGNS] {
+        compare(&rt, rt.alloc(), rows)?;
+    }
     Ok(())
 }
 
 #[test]
-fn a_name_goes_on_up_to_an_arrow(rt: HostRuntime) -> Result<(), Fail> {
-    compare(&rt, rt.alloc(), NAMES)?;
-    Ok(())
-}
-
-#[test]
-fn an_integer_is_canonical_and_stands_alone(rt: HostRuntime) -> Result<(), Fail> {
-    compare(&rt, rt.alloc(), NUMBERS)?;
-    Ok(())
-}
-
-#[test]
-fn a_string_or_iri_is_closed_in_its_line(rt: HostRuntime) -> Result<(), Fail> {
-    compare(&rt, rt.alloc(), STRINGS)?;
-    Ok(())
-}
-
-#[test]
-fn the_longest_sign_is_taken(rt: HostRuntime) -> Result<(), Fail> {
-    compare(&rt, rt.alloc(), SIGNS)?;
-    Ok(())
-}
-
-#[test]
-fn an_annotation_is_white_space(rt: HostRuntime) -> Result<(), Fail> {
-    compare(&rt, rt.alloc(), WHITE)?;
-    Ok(())
-}
-
-#[test]
-fn lines_end_at_line_feeds_and_columns_are_characters(rt: HostRuntime) -> Result<(), Fail> {
-    compare(&rt, rt.alloc(), LINES)?;
-    Ok(())
-}
-
-#[test]
-fn a_character_is_read_whole(rt: HostRuntime) -> Result<(), Fail> {
-    compare(&rt, rt.alloc(), WHOLE)?;
+fn white_space_and_places(rt: HostRuntime) -> Result<(), Fail> {
+    for rows in [WHITE, LINES, WHOLE] {
+        compare(&rt, rt.alloc(), rows)?;
+    }
     Ok(())
 }
 
