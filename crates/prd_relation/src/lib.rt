@@ -37,6 +37,8 @@ mod replay;
 mod scope;
 mod session;
 mod steps;
+#[cfg(test)]
+mod tests;
 mod uses;
 mod values;
 

@@ -1,0 +1,4 @@
+//! Runs worked by hand, and each call once.
+mod calls;
+mod runs;
+mod values;
