@@ -16,7 +16,8 @@ use Rattle.prd_reader.specs.Leaves.{Leaf, word, curie, local, var, int, str, iri
 use Rattle.prd_reader.specs.Trees.{ConstTree, TermTree, constant, variable, spell_term, last_pair, Tail, member_of, with_pairs, spell_tail, TargetTree, target_member, target_frame, spell_target}
 use Rattle.prd_reader.specs.Values.{const_value, term_value, target_value}
 use Rattle.prd_reader.specs.FirstForm.{FitsTerm, FitsTail, FitsTarget, IsInteger}
-use Rattle.prd_reader.specs.FactForm.{fact_target, IsFactForm, IsNumberForm, FactsAreSpelled, NumbersAreSpelled}
+use Rattle.prd_reader.specs.FactForm.{fact_target, IsFactForm, IsNumberForm}
+use Rattle.prd_reader.specs.FactLaws.{FactsAreSpelled, NumbersAreSpelled}
 use Rattle.prd_reader.specs.Reading.{◌>>=◌, alone, whole, fact_at, fact_of, ground_in, ground_step, integer_of, number_at, number_from, statement_at, first_leaf}
 use Rattle.prd_reader.proofs.FrontLemmas.{bind_some}
 use Rattle.prd_reader.proofs.NumberLemmas.{integer_read, integer_again}

@@ -3,7 +3,7 @@
 --     IsFactForm          leaves are a fact: they spell a target without variables
 --     IsNumberForm        leaves are an integer: they spell it in decimal
 -- Source: the project's own (docs/FORMATS.md, "Jobs").
-use Rattle.std.specs.Prelude.{◌≡◌, ◌↔◌, ℤ, List, [], ◌∷◌, map, Some}
+use Rattle.std.specs.Prelude.{◌≡◌, ℤ, List, [], ◌∷◌, map}
 use Rattle.std.specs.Fmt.{signed_decimal}
 use Rattle.rif_terms.specs.declared.constant.Const.{Const}
 use Rattle.rif_terms.specs.declared.fact.Fact.{Fact}
@@ -16,7 +16,6 @@ use Rattle.prd_reader.specs.Leaves.{Leaf, int}
 use Rattle.prd_reader.specs.Trees.{TargetTree, spell_target}
 use Rattle.prd_reader.specs.Values.{target_value}
 use Rattle.prd_reader.specs.FirstForm.{FitsTarget, IsInteger}
-use Rattle.prd_reader.specs.Reading.{fact_at, number_at}
 
 abbrev pub fact_target : Fact → Target
 fact_target (Atom p cs) = AtomTarget p (map (λ (c : Const). ConstTerm c) cs)
@@ -32,11 +31,3 @@ pub record IsFactForm (ls : List Leaf) (fact : Fact) : Type 0 where
 pub record IsNumberForm (ls : List Leaf) (z : ℤ) : Type 0 where
   pub spelled : int (signed_decimal z) ∷ [] ≡ ls
   pub range : IsInteger z
-
--- Law: what is read as a fact is what spells it.
-abbrev pub FactsAreSpelled : Type 0
-FactsAreSpelled = (ls : List Leaf) (fact : Fact) → (fact_at ls ≡ Some fact) ↔ IsFactForm ls fact
-
--- Law: what is read as a number is its decimal digits.
-abbrev pub NumbersAreSpelled : Type 0
-NumbersAreSpelled = (ls : List Leaf) (z : ℤ) → (number_at ls ≡ Some z) ↔ IsNumberForm ls z

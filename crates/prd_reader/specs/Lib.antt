@@ -1,4 +1,5 @@
 pub mod FactForm
+pub mod FactLaws
 pub mod FirstForm
 pub mod Leaves
 pub mod Numbers

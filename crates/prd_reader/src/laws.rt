@@ -1,5 +1,5 @@
 //! Laws of the definitions.
-ghost use Rattle.prd_reader.specs.FactForm.{FactsAreSpelled, NumbersAreSpelled};
+ghost use Rattle.prd_reader.specs.FactLaws.{FactsAreSpelled, NumbersAreSpelled};
 ghost use Rattle.prd_reader.specs.FirstForm.{OneDocument};
 
 /// Law: tokens are one document of the first form at most.

@@ -7,13 +7,13 @@
 //! | `rule.rt` | a rule | `specs/RuleReading.antt` |
 //! | `action.rt` | the actions of a rule | `specs/RuleReading.antt` |
 //! | `condition.rt` | the condition of a rule | `specs/RuleReading.antt` |
-//! | `fact.rt` | `read_fact`, the fact that tokens stand for | `specs/Reading.antt` |
+//! | `fact.rt` | `read_fact`, the fact that tokens stand for | `specs/FactForm.antt`, `specs/Reading.antt` |
 //! | `statement.rt` | a membership or a frame | `specs/Reading.antt` |
 //! | `term.rt` | constants and variables; `read_number`, the integer that tokens are | `specs/Reading.antt`, `specs/Leaves.antt` |
 //! | `names.rt` | the names of a rule's variables | `specs/RuleReading.antt` |
 //! | `leaves.rt` | the tokens that are left to read | `specs/Reading.antt`, `specs/Leaves.antt` |
 //! | `spacing.rt` | `are_ascii`, `are_spaced`: that bytes are ASCII, and have no annotation | `specs/FirstForm.antt` |
-//! | `laws.rt` | laws of the definitions, with empty bodies | `specs/FirstForm.antt` |
+//! | `laws.rt` | laws of the definitions, with empty bodies | `specs/FirstForm.antt`, `specs/FactLaws.antt` |
 //! | `refusing.rt` | `left_out`, the refusal of all else | |
 //!
 //! Begin at `read_doc`.

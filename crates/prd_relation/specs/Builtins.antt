@@ -4,7 +4,7 @@
 --
 -- THE PLACE OF THE TABLE OF BUILT-INS. The table isn't here yet: until it is, no built-in has a value,
 -- and no document that names one is run.
--- Source: RIF-DTB, "Functions and predicates".
+-- Source: RIF-DTB, "List of RIF Built-in Predicates and Functions".
 use Rattle.std.specs.Prelude.{Bool, List, None}
 use Rattle.std.specs.declared.option.Option.{Option}
 use Rattle.rif_terms.specs.declared.constant.Const.{Const}

@@ -6,7 +6,7 @@ use Rattle.session_states.specs.declared.item.Item.{Item}
 use Rattle.session_states.specs.declared.item.Entry.{Entry}
 use Rattle.session_states.specs.Batches.{IsLawful}
 use Rattle.rif_script.specs.Cutting.{batches_behind, ends_behind, is_control, is_dispose, served_count, with_first}
-use Rattle.rif_script.specs.CuttingLaws.{AreEnded, AreLawful, ControlsLast, CutEndsBatches, CutIsLawful, CutKeepsAll, joined, last_passes}
+use Rattle.rif_script.specs.CuttingLaws.{AreEnded, AreCutLawfully, ControlsLast, CutEndsBatches, CutIsLawful, CutKeepsAll, joined, last_passes}
 use Rattle.rif_script.proofs.CuttingLemmas.{AreChanges, AreChanges-snoc, batches_after, batches_where, closes, goes_on}
 use Rattle.rif_script.proofs.CuttingLemmas.{joined_first-alone, lawful_begun, lawful_closed, neither, room_joined}
 
@@ -69,32 +69,32 @@ some_entry : (entry : Entry) (begun : List Entry) → entry ∷ begun ≢ []
 some_entry entry begun same = cc
 
 lawful_before : (batch : List Entry) (batches : List (List Entry)) → IsLawful batch → batch ≢ [] →
-    last_passes is_dispose batch ≡ false → AreLawful batches → AreLawful (batch ∷ batches)
+    last_passes is_dispose batch ≡ false → AreCutLawfully batches → AreCutLawfully (batch ∷ batches)
 lawful_before batch [] lawful some other rest = (lawful, some)
 lawful_before batch (next ∷ batches) lawful some other rest = (lawful, some, other, rest)
 
-lawful_last : (begun : List Entry) → length begun < MOST_BATCH_ITEMS → AreChanges begun → AreLawful (batches_after [] begun [])
+lawful_last : (begun : List Entry) → length begun < MOST_BATCH_ITEMS → AreChanges begun → AreCutLawfully (batches_after [] begun [])
 lawful_last [] room changes = tt
-lawful_last (e ∷ begun) room changes = subst AreLawful (sym (joined_first-alone e begun))
+lawful_last (e ∷ begun) room changes = subst AreCutLawfully (sym (joined_first-alone e begun))
     (lawful_begun (e ∷ begun) room changes, some_entry e begun)
 
 -- the batches of what is begun and what is to come are lawful
 abbrev Lawful : List Entry → List Entry → Type 0
-Lawful begun entries = length begun < MOST_BATCH_ITEMS → AreChanges begun → AreLawful (batches_after [] begun entries)
+Lawful begun entries = length begun < MOST_BATCH_ITEMS → AreChanges begun → AreCutLawfully (batches_after [] begun entries)
 
 lawful_step : (begun : List Entry) (entry : Entry) (entries : List Entry) (ends : Bool) →
     ends_behind (length begun) entry.item ≡ ends → DisposesLast (entry ∷ entries) →
     Lawful [] entries → Lawful (begun ++ entry ∷ []) entries → Lawful begun (entry ∷ entries)
 lawful_step begun entry [] true is last anew on room changes =
-    subst AreLawful (closes [] begun entry [] is) (lawful_closed begun (begun ++ entry ∷ []) entry room changes refl, not_empty begun entry)
+    subst AreCutLawfully (closes [] begun entry [] is) (lawful_closed begun (begun ++ entry ∷ []) entry room changes refl, not_empty begun entry)
 lawful_step begun entry (next ∷ entries) true is last anew on room changes =
     let other : last_passes is_dispose (begun ++ entry ∷ []) ≡ false = last_passes-snoc is_dispose begun entry ∙ last.0 in
-    subst AreLawful (closes [] begun entry (next ∷ entries) is)
+    subst AreCutLawfully (closes [] begun entry (next ∷ entries) is)
     (lawful_before (begun ++ entry ∷ []) (batches_behind 0 (next ∷ entries)) (lawful_closed begun (begun ++ entry ∷ []) entry room changes refl) (not_empty begun entry) other
     (anew (lit< tt) tt))
 lawful_step begun entry entries false is last anew on room changes =
     let change = neither (is_control entry.item) (length begun + 1 == MOST_BATCH_ITEMS) is in
-    subst AreLawful (goes_on [] begun entry entries is)
+    subst AreCutLawfully (goes_on [] begun entry entries is)
     (on (room_joined begun (begun ++ entry ∷ []) entry room is refl) (AreChanges-snoc begun entry changes change.0))
 
 rest_disposes_last : (entry : Entry) (entries : List Entry) → DisposesLast (entry ∷ entries) → DisposesLast entries

@@ -1,4 +1,3 @@
-pub mod ClientLemmas
 pub mod CuttingLemmas
 pub mod JobLemmas
 pub mod LawLemmas

@@ -12,7 +12,8 @@ use Rattle.session_states.specs.declared.turn.Act.{Act}
 use Rattle.session_states.specs.declared.turn.Act.TheVariants.{Idle, Halted, Disposed, Fired, StoppedQuiet, StoppedLimit, Resting}
 use Rattle.session_states.specs.declared.turn.Turn.{Turn}
 use Rattle.rif_script.specs.declared.job.Job.{Job}
-use Rattle.rif_script.specs.CuttingLaws.{CountUp, items_of, joined, ranks_of, script_of}
+use Rattle.session_states.specs.Clients.{items_of, ranks_of}
+use Rattle.rif_script.specs.CuttingLaws.{CountUp, joined, script_of}
 use Rattle.rif_script.specs.Lines.{entry_line, item_text, name_at}
 use Rattle.rif_script.specs.Trace.{act_text, act_word, effect_text, end_line, pick_text, run_text, turn_text, turns_text}
 use Rattle.rif_script.specs.TraceLaws.{AreKnown, AreTurns, FollowsScripts, HasClientNames, HasNoSpace, SameTextSameRun, turns_behind}

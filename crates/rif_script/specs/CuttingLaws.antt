@@ -1,6 +1,5 @@
 -- What the cut of a script keeps.
---     items_of client es        the items of a client's entries
---     ranks_of client es        the ranks of a client's entries
+--     script_of client items    the items of a client, in order
 --     CutKeepsAll               the batches joined, and then what is left, are all entries
 --     CutIsLawful               each batch is lawful, none is empty, and none follows one that ends in a Dispose
 --     CutEndsBatches            a control item ends its batch, and a batch before the last ends in one or is full
@@ -11,6 +10,7 @@ use Rattle.rif_terms.specs.declared.limits.TheConstants.{MOST_BATCH_ITEMS}
 use Rattle.session_states.specs.declared.item.Item.{Item}
 use Rattle.session_states.specs.declared.item.Entry.{Entry}
 use Rattle.session_states.specs.Batches.{IsLawful}
+use Rattle.session_states.specs.Clients.{items_of, ranks_of}
 use Rattle.rif_script.specs.Cutting.{batches_of_entries, entries_after, is_control, is_dispose, left_of_entries}
 
 -- the batches one after another, and then more
@@ -28,13 +28,13 @@ last_passes test (entry ∷ []) = test entry.item
 last_passes test (entry ∷ next ∷ entries) = last_passes test (next ∷ entries)
 
 -- each batch is lawful and not empty, and none follows one that ends in a Dispose
-abbrev pub AreLawful : List (List Entry) → Type 0
-AreLawful [] = Unit {0}
-AreLawful (batch ∷ []) = IsLawful batch × (batch ≢ [])
-AreLawful (batch ∷ next ∷ batches) = IsLawful batch × (batch ≢ []) × (last_passes is_dispose batch ≡ false) × AreLawful (next ∷ batches)
+abbrev pub AreCutLawfully : List (List Entry) → Type 0
+AreCutLawfully [] = Unit {0}
+AreCutLawfully (batch ∷ []) = IsLawful batch × (batch ≢ [])
+AreCutLawfully (batch ∷ next ∷ batches) = IsLawful batch × (batch ≢ []) × (last_passes is_dispose batch ≡ false) × AreCutLawfully (next ∷ batches)
 
 abbrev pub CutIsLawful : Type 0
-CutIsLawful = (entries : List Entry) → AreLawful (batches_of_entries entries)
+CutIsLawful = (entries : List Entry) → AreCutLawfully (batches_of_entries entries)
 
 -- no entry but the last is a control item
 abbrev pub ControlsLast : List Entry → Type 0
@@ -51,16 +51,6 @@ AreEnded (batch ∷ next ∷ batches) =
 
 abbrev pub CutEndsBatches : Type 0
 CutEndsBatches = (entries : List Entry) → AreEnded (batches_of_entries entries)
-
--- the items of a client's entries, in order
-abbrev pub items_of : ℕ → List Entry → List Item
-items_of client [] = []
-items_of client (entry ∷ entries) = if entry.client == client then entry.item ∷ items_of client entries else items_of client entries
-
--- the ranks of a client's entries, in order
-abbrev pub ranks_of : ℕ → List Entry → List ℕ
-ranks_of client [] = []
-ranks_of client (entry ∷ entries) = if entry.client == client then entry.rank ∷ ranks_of client entries else ranks_of client entries
 
 -- a client's items, in order
 abbrev pub script_of : ℕ → List (ℕ × Item) → List Item

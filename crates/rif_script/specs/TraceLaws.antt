@@ -8,7 +8,8 @@ use Rattle.session_states.specs.declared.item.Item.{Item}
 use Rattle.session_states.specs.declared.item.Entry.{Entry}
 use Rattle.session_states.specs.declared.turn.Turn.{Turn}
 use Rattle.rif_script.specs.declared.job.Job.{Job}
-use Rattle.rif_script.specs.CuttingLaws.{CountUp, items_of, joined, ranks_of, script_of}
+use Rattle.session_states.specs.Clients.{items_of, ranks_of}
+use Rattle.rif_script.specs.CuttingLaws.{CountUp, joined, script_of}
 use Rattle.rif_script.specs.Lines.{name_at}
 use Rattle.rif_script.specs.Trace.{run_text}
 

@@ -1,7 +1,7 @@
 -- The values of variables.
 --     IsBinding pairs       the variables of the pairs rise
 --     value_at pairs var    the value of a variable, where it has one
--- Source: RIF-PRD, "Substitutions".
+-- Source: RIF-PRD, "Matching substitution".
 use Rattle.std.specs.Prelude.{ℕ, ◌<◌, ◌==◌, List, [], ◌∷◌, Some, None, if◌then◌else◌}
 use Rattle.std.specs.declared.option.Option.{Option}
 use Rattle.rif_terms.specs.declared.constant.Const.{Const}

@@ -4,7 +4,7 @@
 --     after_change facts c       the state that a change leads to
 --     facts_after facts cs       the state that some changes lead to, done in order
 --     net_change old new         what the new state has and the old hasn't, and the other way round
--- Source: RIF-PRD, "States of the fact base" and "Operational semantics of atomic actions"; that a
+-- Source: RIF-PRD, "Condition satisfaction" and "Operational semantics of atomic actions"; that a
 -- membership is retracted, and `Modify` with no old value, are the project's own (docs/PROFILE.md, "Actions").
 use Rattle.std.specs.Prelude.{Bool, false, not, ◌&&◌, List, [], ◌∷◌, filter}
 use Rattle.std.specs.Ordering.{eq_by_cmp}

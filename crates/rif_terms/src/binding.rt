@@ -14,7 +14,7 @@ use std::marker::Model;
 /// whose variables rise. Bindings are ordered as these lists are: on bindings of the same variables that
 /// is by their values in order of variable.
 ///
-/// Source: RIF-PRD, "Substitutions"; the order is our own (docs/PROFILE.md, "Order").
+/// Source: RIF-PRD, "Matching substitution"; the order is our own (docs/PROFILE.md, "Order").
 #[derive(Debug, PartialEq, Eq, PartialOrd, Ord, Drop)]
 pub struct Binding {
     pairs: Listed<(u32, Const)>,

@@ -1,7 +1,7 @@
 /// A built-in function.
 ///
-/// Source: RIF-DTB, "Functions and predicates", but for the name and meaning of `NumericIntegerMod`,
-/// which are our own (docs/PROFILE.md, "Built-ins").
+/// Source: RIF-DTB, "List of RIF Built-in Predicates and Functions", but for the name and meaning of
+/// `NumericIntegerMod`, which are our own (docs/PROFILE.md, "Built-ins").
 #[derive(Clone, Copy, Debug, PartialEq, Eq)]
 pub enum Func {
     NumericAdd,
@@ -16,7 +16,7 @@ pub enum Func {
 
 /// A built-in predicate.
 ///
-/// Source: RIF-DTB, "Functions and predicates".
+/// Source: RIF-DTB, "List of RIF Built-in Predicates and Functions".
 #[derive(Clone, Copy, Debug, PartialEq, Eq)]
 pub enum Pred {
     NumericEqual,

@@ -9,7 +9,8 @@ use std::cmp::Ordering;
 /// A rule instance: a rule, counted from 1, and the values of its variables. Instances are ordered by
 /// rule, then by binding.
 ///
-/// Source: RIF-PRD, "Rule instance"; the order is our own (docs/PROFILE.md, "Order").
+/// Source: RIF-PRD, "Definitions and notational conventions"; the order is our own (docs/PROFILE.md,
+/// "Order").
 #[derive(Debug, PartialEq, Eq, PartialOrd, Ord, Drop)]
 pub struct Instance {
     pub rule: u32,

@@ -117,7 +117,7 @@ impl CopyIn for Decl {
 /// A rule: its priority, the names of its variables in first-seen order, its levels from the outermost,
 /// its `If` formula where it has one, and its block.
 ///
-/// Source: RIF-PRD, "Rules and groups"; a rule's priority is that of the nearest group around it that
+/// Source: RIF-PRD, "Rules" and "Groups"; a rule's priority is that of the nearest group around it that
 /// gives one, else 0.
 #[derive(Debug, Drop)]
 pub struct Rule {
@@ -165,7 +165,7 @@ impl CopyIn for Rule {
 
 /// A document: its rules, in the order of the text.
 ///
-/// Source: RIF-PRD, "Documents".
+/// Source: RIF-PRD, "Document and imports".
 #[derive(Debug, Drop)]
 pub struct Doc {
     pub rules: Items<Rule>,
