@@ -1,5 +1,6 @@
 -- What is chosen, and when nothing is.
-use Rattle.std.proofs.Common.{◌≡◌, ◌∙◌, ℕ, zero, suc, Bool, true, false, cond, not, ◌&&◌, ◌||◌, List, [], ◌∷◌, filter, slice_get, Some, None, refl, ap, sym, subst, arith}
+use Rattle.std.proofs.Common.{◌≡◌, ◌∙◌, ℕ, Bool, true, false, cond, not, ◌&&◌, ◌||◌, List, [], ◌∷◌, filter, slice_get}
+use Rattle.std.proofs.Common.{Some, None, refl, ap, sym, arith}
 use Rattle.std.proofs.Common.{ℤ, nat_lt, true≢false}
 use Rattle.std.proofs.lemmas.Grind.{common_steps}
 use Rattle.std.specs.Cmp.{int_cmp_total, int_cmp_is}
@@ -10,11 +11,10 @@ use Rattle.std.specs.Ordering.{eq_by_cmp, int_cmp, is_lt}
 use Rattle.rif_terms.proofs.OrderLemmas.{total_instances, exact_instances}
 use Rattle.rif_terms.proofs.SetsMembers.{has_filter, equal_itself}
 use Rattle.rif_terms.specs.declared.instance.Instance.{Instance}
-use Rattle.rif_terms.specs.declared.rule.Doc.{Doc}
 use Rattle.rif_terms.specs.InstanceOrder.{instance_cmp}
 use Rattle.rif_terms.specs.Sets.{has}
-use Rattle.prd_relation.specs.declared.moment.Moment.{Moment}
-use Rattle.prd_relation.specs.Choice.{best_by, priority_of, is_lower, is_older, highest_instances, youngest_instances, unrefracted_instances, allowed_instances}
+use Rattle.prd_relation.specs.Choice.{best_by, priority_of, is_lower, is_older, highest_instances, youngest_instances}
+use Rattle.prd_relation.specs.Choice.{unrefracted_instances, allowed_instances}
 use Rattle.prd_relation.specs.History.{newest_conflict_set, age_of, is_refracted}
 use Rattle.prd_relation.specs.Laws.{ChoosesUnrefracted, ChoosesWhereItCan}
 
@@ -33,7 +33,8 @@ parts_of false b h = absurd (cc h)
 -- what a filter leaves was there and passes
 kept : (p : Instance → Bool) (xs : List Instance) (i : Instance) → has instance_cmp (filter p xs) i ≡ true
     → (p i ≡ true) × (has instance_cmp xs i ≡ true)
-kept p xs i there = parts_of (p i) (has instance_cmp xs i) (sym (has_filter total_instances exact_instances p xs i) ∙ there)
+kept p xs i there = parts_of (p i) (has instance_cmp xs i) (sym (has_filter total_instances exact_instances p xs i)
+    ∙ there)
 
 negated : (b : Bool) → not b ≡ true → b ≡ false
 negated true h = absurd (cc h)
@@ -44,14 +45,16 @@ pub chosen_unrefracted : ChoosesUnrefracted
 chosen_unrefracted doc ms i chosen =
     let eager = unrefracted_instances ms (newest_conflict_set ms) in
     let highest = highest_instances doc eager in
-    let young = kept (λ x. not (list_any (is_older ms x) highest)) highest i (has_first (allowed_instances doc ms) i chosen) in
+    let young = kept (λ x. not (list_any (is_older ms x) highest)) highest i
+        (has_first (allowed_instances doc ms) i chosen) in
     let high = kept (λ x. not (list_any (is_lower doc x) eager)) eager i young.1 in
     let free = kept (λ x. not (is_refracted ms x)) (newest_conflict_set ms) i high.1 in
     (free.1, negated (is_refracted ms i) free.0)
 
 -- ---- where something is left to choose from, something is chosen
 
-all_beaten : {X : Type 0} (w : X → X → Bool) → ((a b c : X) → w a b ≡ true → w b c ≡ true → w a c ≡ true) → (m x : X) → w m x ≡ true
+all_beaten : {X : Type 0} (w : X → X → Bool) → ((a b c : X) → w a b ≡ true → w b c ≡ true → w a c ≡ true) → (m x : X)
+    → w m x ≡ true
     → (ys : List X) → AllByRecursion (λ y. w m y ≡ false) ys → AllByRecursion (λ y. w x y ≡ false) ys
 all_beaten w trans m x worse [] all = tt
 all_beaten w trans m x worse (y ∷ ys) all = (unbeaten (w x y) refl, all_beaten w trans m x worse ys all.1)
@@ -60,8 +63,10 @@ all_beaten w trans m x worse (y ∷ ys) all = (unbeaten (w x y) refl, all_beaten
     unbeaten true is = absurd (true≢false (sym (trans m x y worse is) ∙ all.0))
     unbeaten false is = is
 
-best_exists : {X : Type 0} (w : X → X → Bool) → ((a b c : X) → w a b ≡ true → w b c ≡ true → w a c ≡ true) → ((a : X) → w a a ≡ false)
-    → (P : X → Type 0) (x : X) (xs : List X) → AllByRecursion P (x ∷ xs) → (m : X) × P m × AllByRecursion (λ y. w m y ≡ false) (x ∷ xs)
+best_exists : {X : Type 0} (w : X → X → Bool) → ((a b c : X) → w a b ≡ true → w b c ≡ true → w a c ≡ true)
+    → ((a : X) → w a a ≡ false)
+    → (P : X → Type 0) (x : X) (xs : List X) → AllByRecursion P (x ∷ xs)
+    → (m : X) × P m × AllByRecursion (λ y. w m y ≡ false) (x ∷ xs)
 best_exists w trans irr P x [] all = (x, all.0, (irr x, tt))
 best_exists w trans irr P x (y ∷ xs) all =
     let later = best_exists w trans irr P y xs all.1 in by_first later.0 later.1 later.2 (w later.0 x) refl
@@ -85,7 +90,8 @@ none_kept p (x ∷ xs) empty = by_test (p x) refl empty (λ rest. none_kept p xs
     by_test false is empty later = (is, later empty)
 
 -- of some there are best ones
-best_of_some : {X : Type 0} (w : X → X → Bool) → ((a b c : X) → w a b ≡ true → w b c ≡ true → w a c ≡ true) → ((a : X) → w a a ≡ false)
+best_of_some : {X : Type 0} (w : X → X → Bool) → ((a b c : X) → w a b ≡ true → w b c ≡ true → w a c ≡ true)
+    → ((a : X) → w a a ≡ false)
     → (xs : List X) → best_by w xs ≡ [] → xs ≡ []
 best_of_some w trans irr [] empty = refl
 best_of_some {X} w trans irr (x ∷ xs) empty =
@@ -120,7 +126,8 @@ pub nothing_chosen : ChoosesWhereItCan
 nothing_chosen doc ms =
     let eager = unrefracted_instances ms (newest_conflict_set ms) in (
       λ none.
-          let lower = λ (i j k : Instance). lower_trans (priority_of doc i.rule) (priority_of doc j.rule) (priority_of doc k.rule) in
+          let lower = λ (i j k : Instance). lower_trans (priority_of doc i.rule) (priority_of doc j.rule)
+              (priority_of doc k.rule) in
           let older = λ (i j k : Instance). older_trans (age_of ms i) (age_of ms j) (age_of ms k) in
           best_of_some (is_lower doc) lower (λ i. lower_irr (priority_of doc i.rule)) eager
           (best_of_some (is_older ms) older (λ i. older_irr (age_of ms i)) (highest_instances doc eager)

@@ -1,12 +1,8 @@
 -- What keeps a list of facts a state of facts.
-use Rattle.std.proofs.Common.{◌≡◌, ◌≤◌, Bool, true, false, not, List, ◌++◌, ◌∷◌, length, Result, Ok, Err, IfOk, IfErr, ℕ, sym, ap, subst, ◌∙◌}
-use Rattle.std.specs.Ordering.{match_ordering}
-use Rattle.std.specs.List.{insert}
+use Rattle.std.proofs.Common.{◌≡◌, ◌≤◌, Bool, not, List, Result, Ok, Err, IfErr, ℕ, sym, ap, subst, ◌∙◌}
 use Rattle.std.specs.List.Sorted.{IsSearchInRange}
-use Rattle.std.specs.BTreeSet.{insert_key}
 use Rattle.rif_terms.specs.declared.fact.Fact.{Fact}
 use Rattle.rif_terms.specs.Facts.{IsFacts, without, with_fact}
-use Rattle.rif_terms.specs.Order.{fact_cmp}
 use Rattle.rif_terms.proofs.OrderLemmas.{total_facts, exact_facts}
 use Rattle.rif_terms.proofs.SetsMembers.{set_insert, set_filter}
 
@@ -14,11 +10,14 @@ use Rattle.rif_terms.proofs.SetsMembers.{set_insert, set_filter}
 pub facts_without : (test : Fact → Bool) (given old new : List Fact) → old ≡ given → IsFacts given
     → new ≡ without test old → IsFacts new
 facts_without test given old new same facts is =
-    subst IsFacts (sym (is ∙ ap (without test) same)) (set_filter total_facts exact_facts (λ fact. not (test fact)) given facts)
+    subst IsFacts (sym (is ∙ ap (without test) same))
+        (set_filter total_facts exact_facts (λ fact. not (test fact)) given facts)
 
 -- a state with one more fact is a state
-pub facts_with : (given old new : List Fact) (fact : Fact) → old ≡ given → IsFacts given → new ≡ with_fact given fact → IsFacts new
-facts_with given old new fact same facts is = subst IsFacts (sym is) (set_insert total_facts exact_facts given fact facts)
+pub facts_with : (given old new : List Fact) (fact : Fact) → old ≡ given → IsFacts given → new ≡ with_fact given fact
+    → IsFacts new
+facts_with given old new fact same facts is =
+    subst IsFacts (sym is) (set_insert total_facts exact_facts given fact facts)
 
 -- a place that was searched for is within the list
 pub err_within : (r : Result ℕ ℕ) (n : ℕ) → IsSearchInRange r n → IfErr r (λ at. at ≤ n)

@@ -1,11 +1,13 @@
 -- Ages and refraction are what their sentences say.
-use Rattle.std.proofs.Common.{◌≡◌, ◌∙◌, ℕ, suc, Bool, true, false, ◌&&◌, ◌||◌, ◌⊎◌, if◌then◌else◌, List, [], ◌∷◌, ◌++◌, length, refl, ap, inl, inr, arith}
+use Rattle.std.proofs.Common.{◌≡◌, ◌∙◌, ℕ, suc, Bool, true, false, ◌&&◌, ◌||◌, ◌⊎◌, if◌then◌else◌, List, [], ◌∷◌, ◌++◌}
+use Rattle.std.proofs.Common.{length, refl, ap, inl, inr, arith}
 use Rattle.std.specs.List.{AllByRecursion}
 use Rattle.rif_terms.specs.declared.instance.Instance.{Instance}
 use Rattle.rif_terms.specs.InstanceOrder.{instance_cmp}
 use Rattle.rif_terms.specs.Sets.{has}
 use Rattle.prd_relation.specs.declared.moment.Moment.{Moment}
-use Rattle.prd_relation.specs.History.{newest_conflict_set, has_instance, is_pick, age_of, is_refracted, Interrupts, IsAge, IsRefracted}
+use Rattle.prd_relation.specs.History.{newest_conflict_set, has_instance, is_pick, age_of, is_refracted, Interrupts}
+use Rattle.prd_relation.specs.History.{IsAge, IsRefracted}
 use Rattle.prd_relation.specs.Laws.{AreAgesSaid, IsRefractionSaid, AreOthersUnaged}
 
 -- ---- refraction
@@ -23,7 +25,8 @@ from_before : (a b c d : Bool) → a ≡ true → d ≡ true → (a && ((b && c)
 from_before a b c d p q = grind arith
 
 refracted_here : (newest : Moment) (earlier : List Moment) (i : Instance) → has_instance newest i ≡ true
-    → has instance_cmp (newest_conflict_set earlier) i ≡ true → is_pick newest.pick i ≡ true → IsRefracted (newest ∷ earlier) i
+    → has instance_cmp (newest_conflict_set earlier) i ≡ true → is_pick newest.pick i ≡ true
+    → IsRefracted (newest ∷ earlier) i
 refracted_here newest [] i there before picked = absurd (cc before)
 refracted_here newest (fired_at ∷ earlier) i there before picked = record {
   later = [];
@@ -35,7 +38,8 @@ refracted_here newest (fired_at ∷ earlier) i there before picked = record {
   there = (there, (before, tt));
 }
 
-refracted_on : (newest : Moment) (earlier : List Moment) (i : Instance) → has_instance newest i ≡ true → IsRefracted earlier i
+refracted_on : (newest : Moment) (earlier : List Moment) (i : Instance) → has_instance newest i ≡ true
+    → IsRefracted earlier i
     → IsRefracted (newest ∷ earlier) i
 refracted_on newest earlier i there said = record {
   later = newest ∷ said.later;
@@ -50,20 +54,25 @@ refracted_on newest earlier i there said = record {
 refraction_says : (moments : List Moment) (i : Instance) → is_refracted moments i ≡ true → IsRefracted moments i
 refraction_says [] i is = absurd (cc is)
 refraction_says (newest ∷ earlier) i is =
-    let parts = split (has_instance newest i) (has instance_cmp (newest_conflict_set earlier) i) (is_pick newest.pick i) (is_refracted earlier i) is in
+    let parts = split (has_instance newest i) (has instance_cmp (newest_conflict_set earlier) i)
+        (is_pick newest.pick i) (is_refracted earlier i) is in
     elim parts.1 [
       | inl fired ↦ refracted_here newest earlier i parts.0 fired.0 fired.1
       | inr before ↦ refracted_on newest earlier i parts.0 (refraction_says earlier i before)
     ]
 
-refracted_at : (later : List Moment) (reached fired_at : Moment) (earlier : List Moment) (i : Instance) → is_pick reached.pick i ≡ true
+refracted_at : (later : List Moment) (reached fired_at : Moment) (earlier : List Moment) (i : Instance)
+    → is_pick reached.pick i ≡ true
     → AllByRecursion (λ moment. has_instance moment i ≡ true) (later ++ reached ∷ fired_at ∷ [])
     → is_refracted (later ++ reached ∷ fired_at ∷ earlier) i ≡ true
 refracted_at [] reached fired_at earlier i picked all =
-    by_firing (has_instance reached i) (has_instance fired_at i) (is_pick reached.pick i) (is_refracted (fired_at ∷ earlier) i) all.0 (all.1).0 picked
+    by_firing (has_instance reached i) (has_instance fired_at i) (is_pick reached.pick i)
+        (is_refracted (fired_at ∷ earlier) i) all.0 (all.1).0 picked
 refracted_at (m ∷ later) reached fired_at earlier i picked all =
-    from_before (has_instance m i) (has instance_cmp (newest_conflict_set (later ++ reached ∷ fired_at ∷ earlier)) i) (is_pick m.pick i)
-    (is_refracted (later ++ reached ∷ fired_at ∷ earlier) i) all.0 (refracted_at later reached fired_at earlier i picked all.1)
+    from_before (has_instance m i) (has instance_cmp (newest_conflict_set (later ++ reached ∷ fired_at ∷ earlier)) i)
+    (is_pick m.pick i)
+    (is_refracted (later ++ reached ∷ fired_at ∷ earlier) i) all.0
+        (refracted_at later reached fired_at earlier i picked all.1)
 
 refraction_said : (moments : List Moment) (i : Instance) → IsRefracted moments i → is_refracted moments i ≡ true
 refraction_said moments i said =
@@ -107,11 +116,13 @@ age_at : (recent earlier : List Moment) (i : Instance) → AllByRecursion (λ mo
     → Interrupts earlier i → age_of (recent ++ earlier) i ≡ length recent
 age_at [] earlier i all ends = ended earlier i ends
 age_at (m ∷ recent) earlier i all ends =
-    ap (λ (b : Bool). if b then suc (age_of (recent ++ earlier) i) else 0) all.0 ∙ ap suc (age_at recent earlier i all.1 ends)
+    ap (λ (b : Bool). if b then suc (age_of (recent ++ earlier) i) else 0) all.0
+        ∙ ap suc (age_at recent earlier i all.1 ends)
 
 age_said : (moments : List Moment) (i : Instance) (n : ℕ) → IsAge moments i n → age_of moments i ≡ n
 age_said moments i n said =
-    ap (λ (ms : List Moment). age_of ms i) said.all ∙ age_at said.recent said.earlier i said.there said.ends ∙ said.count
+    ap (λ (ms : List Moment). age_of ms i) said.all ∙ age_at said.recent said.earlier i said.there said.ends
+        ∙ said.count
 
 -- the age is the one number that the sentence says
 pub ages_are : AreAgesSaid

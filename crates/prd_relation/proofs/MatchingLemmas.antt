@@ -12,9 +12,11 @@ then_none None f h = refl
 then_none (Some row) f h = h row
 
 -- terms don't have the values of another number of constants
-pub none_of_lengths : (ts : List Term) (row : Row) (cs : List Const) → length ts ≢ length cs → match_terms ts row cs ≡ None
+pub none_of_lengths : (ts : List Term) (row : Row) (cs : List Const) → length ts ≢ length cs
+    → match_terms ts row cs ≡ None
 none_of_lengths [] row [] differ = absurd (differ refl)
 none_of_lengths [] row (c ∷ cs) differ = refl
 none_of_lengths (t ∷ ts) row [] differ = refl
 none_of_lengths (t ∷ ts) row (c ∷ cs) differ =
-    then_none (match_term row t c) (λ next. match_terms ts next cs) (λ next. none_of_lengths ts next cs (λ same. differ (ap suc same)))
+    then_none (match_term row t c) (λ next. match_terms ts next cs)
+        (λ next. none_of_lengths ts next cs (λ same. differ (ap suc same)))

@@ -1,6 +1,7 @@
 -- The marks of a history: what one more state makes of them, and where an instance is found.
-use Rattle.std.proofs.Common.{◌≡◌, ◌∙◌, ℕ, zero, suc, ◌+◌, ◌<◌, ◌≤◌, Bool, true, false, cond, if◌then◌else◌, ◌&&◌, ◌||◌, List, [], ◌∷◌, ◌++◌, map, reverse, length, get_or, slice_get, Some, None, refl, ap, sym, subst, add-one, arith}
-use Rattle.std.specs.List.{AllByRecursion}
+use Rattle.std.proofs.Common.{◌≡◌, ◌∙◌, ℕ, zero, suc, ◌+◌, ◌<◌, ◌≤◌, Bool, true, false, if◌then◌else◌, ◌&&◌, ◌||◌, List}
+use Rattle.std.proofs.Common.{[], ◌∷◌, ◌++◌, map, reverse, length, get_or, slice_get, Some, refl, ap, sym, subst}
+use Rattle.std.proofs.Common.{add-one, arith}
 use Rattle.std.specs.Ordering.{eq_by_cmp}
 use Rattle.std.specs.declared.option.Option.{Option}
 use Rattle.std.proofs.lemmas.List.{reverse-append}
@@ -22,9 +23,11 @@ got (y ∷ xs) zero x within is = ap Some (sym is)
 got (y ∷ xs) (suc n) x within is = got xs n x (omega arith) is
 
 -- what compares alike with an instance is it
-pub found_at : (xs : List Instance) (n : ℕ) (x i : Instance) → n < length xs → x ≡ get_or xs n x → eq_by_cmp instance_cmp i x ≡ true
+pub found_at : (xs : List Instance) (n : ℕ) (x i : Instance) → n < length xs → x ≡ get_or xs n x
+    → eq_by_cmp instance_cmp i x ≡ true
     → slice_get xs n ≡ Some i
-found_at xs n x i within is same = got xs n x within is ∙ ap Some (sym (equal_is total_instances exact_instances i x same))
+found_at xs n x i within is same = got xs n x within is
+    ∙ ap Some (sym (equal_is total_instances exact_instances i x same))
 
 has_at : (xs : List Instance) (n : ℕ) (i : Instance) → slice_get xs n ≡ Some i → has instance_cmp xs i ≡ true
 has_at [] n i at = absurd (cc at)
@@ -34,7 +37,8 @@ has_at (x ∷ xs) zero i at =
     ∙ ap (λ b. b || has instance_cmp xs i) (equal_itself total_instances exact_instances i)
 has_at (x ∷ xs) (suc n) i at = let later = has_at xs n i at in grind (arith, later)
 
-mapped_at : {X Y : Type 0} (f : X → Y) (xs : List X) (n : ℕ) (x : X) (d : Y) → slice_get xs n ≡ Some x → get_or (map f xs) n d ≡ f x
+mapped_at : {X Y : Type 0} (f : X → Y) (xs : List X) (n : ℕ) (x : X) (d : Y) → slice_get xs n ≡ Some x
+    → get_or (map f xs) n d ≡ f x
 mapped_at f [] n x d at = absurd (cc at)
 mapped_at f (y ∷ xs) zero x d at = let same : y ≡ x = cc at in ap f same
 mapped_at f (y ∷ xs) (suc n) x d at = mapped_at f xs n x d at
@@ -55,19 +59,22 @@ module _ (pick : Option Instance) (ms : List Moment) (i : Instance) (place : ℕ
     (are : marks ≡ map (mark_of ms) (newest_conflict_set ms)) where
   -- the mark at the place of an instance is its mark
   pub mark_there : get_or marks place d ≡ mark_of ms i
-  mark_there = ap (λ (xs : List Mark). get_or xs place d) are ∙ mapped_at (mark_of ms) (newest_conflict_set ms) place i d at
+  mark_there = ap (λ (xs : List Mark). get_or xs place d) are
+      ∙ mapped_at (mark_of ms) (newest_conflict_set ms) place i d at
 
   next_there : (fired : Bool) → fired ≡ (is_refracted ms i || is_pick pick i)
       → ◌≡◌ {A = Mark} (record { age = (get_or marks place d).age + 1; refracted = fired }) (next_mark pick ms i)
   next_there fired is =
       let there = has_at (newest_conflict_set ms) place i at in
       let older = add-one (get_or marks place d).age ∙ ap (λ (m : Mark). suc m.age) mark_there in
-      let spent : fired ≡ ((has instance_cmp (newest_conflict_set ms) i && is_pick pick i) || is_refracted ms i) = grind (arith, there, is) in
+      let spent : fired ≡ ((has instance_cmp (newest_conflict_set ms) i && is_pick pick i) || is_refracted ms i) =
+          grind (arith, there, is) in
       λ k. record { age = older k; refracted = spent k }
 
   -- a refracted instance stays so
   pub next_refracted : (get_or marks place d).refracted ≡ true
-      → ◌≡◌ {A = Mark} (record { age = (get_or marks place d).age + 1; refracted = (get_or marks place d).refracted }) (next_mark pick ms i)
+      → ◌≡◌ {A = Mark} (record { age = (get_or marks place d).age + 1; refracted = (get_or marks place d).refracted })
+      (next_mark pick ms i)
   next_refracted before =
       let was = ap (λ (m : Mark). m.refracted) mark_there in
       next_there (get_or marks place d).refracted (grind (arith, before, was))
@@ -80,16 +87,19 @@ module _ (pick : Option Instance) (ms : List Moment) (i : Instance) (place : ℕ
       next_there fired (grind (arith, before, was, is))
 
 -- what is said of an instance of the new conflict set
-next_is : (pick : Option Instance) (ms : List Moment) (m : Moment) (i : Instance) → m.pick ≡ pick → has_instance m i ≡ true
+next_is : (pick : Option Instance) (ms : List Moment) (m : Moment) (i : Instance) → m.pick ≡ pick
+    → has_instance m i ≡ true
     → next_mark pick ms i ≡ mark_of (m ∷ ms) i
 next_is pick ms m i same there =
-    let spent = λ (p : Option Instance). (has instance_cmp (newest_conflict_set ms) i && is_pick p i) || is_refracted ms i in
+    let spent = λ (p : Option Instance). (has instance_cmp (newest_conflict_set ms) i && is_pick p i) || is_refracted
+        ms i in
     let older = ap (λ (b : Bool). if b then suc (age_of ms i) else 0) (sym there) in
     let refracted = ap spent (sym same) ∙ ap (λ (b : Bool). b && spent m.pick) (sym there) in
     λ k. record { age = older k; refracted = refracted k }
 
 next_all : (pick : Option Instance) (ms : List Moment) (m : Moment) (xs : List Instance) → m.pick ≡ pick
-    → ((i : Instance) → has instance_cmp xs i ≡ true → has_instance m i ≡ true) → map (next_mark pick ms) xs ≡ map (mark_of (m ∷ ms)) xs
+    → ((i : Instance) → has instance_cmp xs i ≡ true → has_instance m i ≡ true)
+    → map (next_mark pick ms) xs ≡ map (mark_of (m ∷ ms)) xs
 next_all pick ms m [] same inside = refl
 next_all pick ms m (x ∷ xs) same inside =
     let here = next_is pick ms m x same

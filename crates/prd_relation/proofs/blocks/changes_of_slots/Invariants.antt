@@ -6,5 +6,6 @@ use Rattle.prd_relation.proofs.blocks.changes_of_slots.Given as goal
 
 abbrev pub invariant-loop-pair : goal.invariant-loop-pair
 invariant-loop-pair l =
-    option_map (λ more. l.list.items ++ more) (slot_changes (frame_change l.way) l.row l.object (drop l.pair-index l.pairs))
+    option_map (λ more. l.list.items ++ more)
+    (slot_changes (frame_change l.way) l.row l.object (drop l.pair-index l.pairs))
     ≡ slot_changes (frame_change l.way) l.row l.object l.pairs

@@ -5,12 +5,14 @@ use Rattle.prd_relation.specs.Blocks.{after_decl}
 use Rattle.prd_relation.proofs.blocks.scope_after_one.Goals as goal
 
 -- what holds of all facts holds of some
-at_facts : {A E : Type 0} (f : List Fact → A) (r : Result A E) (w : List Fact) → IfOk r (λ found. (v : List Fact) → found ≡ f v)
+at_facts : {A E : Type 0} (f : List Fact → A) (r : Result A E) (w : List Fact)
+    → IfOk r (λ found. (v : List Fact) → found ≡ f v)
     → IfOk r (λ found. found ≡ f w)
 at_facts f (Ok found) w all = all w
 at_facts f (Err error) w all = all
 
 pub returns-in-New-clause-scope : goal.returns-in-New-clause-scope
 returns-in-New-clause-scope c =
-    rw c.in-New.is (at_facts (λ w. after_decl w (New c.in-New.var) c.args.scope.now) c.scope_with_object.result c.args.facts.now
+    rw c.in-New.is (at_facts (λ w. after_decl w (New c.in-New.var) c.args.scope.now) c.scope_with_object.result
+    c.args.facts.now
     c.scope_with_object.ensures.scope)

@@ -1,4 +1,4 @@
-use Rattle.std.proofs.Common.{◌∙◌, List, Some, None, slice_get, ap, sym}
+use Rattle.std.proofs.Common.{◌∙◌, List, Some, None, slice_get, ap}
 use Rattle.std.specs.declared.option.Option.{Option}
 use Rattle.prd_relation.specs.declared.candidate.Candidate.{Candidate}
 use Rattle.prd_relation.specs.Choice.{best_by}

@@ -4,4 +4,5 @@ use Rattle.prd_relation.specs.Layout.{is_staler}
 use Rattle.prd_relation.proofs.choosing.youngest_candidates.Given as goal
 
 abbrev pub invariant-loop-candidate : goal.invariant-loop-candidate
-invariant-loop-candidate l = l.best.items ≡ filter (λ x. not (list_any (is_staler x) l.candidates)) (take l.candidate-index l.candidates)
+invariant-loop-candidate l =
+    l.best.items ≡ filter (λ x. not (list_any (is_staler x) l.candidates)) (take l.candidate-index l.candidates)

@@ -1,4 +1,4 @@
-use Rattle.std.proofs.Common.{◌≡◌, ◌∙◌, ◌<◌, ◌++◌, ℕ, suc, ◌+◌, List, length, get_or, map, drop, ap, sym, subst}
+use Rattle.std.proofs.Common.{◌∙◌, ◌<◌, ◌++◌, ℕ, suc, ◌+◌, List, length, get_or, map, drop, ap, sym, subst}
 use Rattle.rif_terms.specs.declared.fact.Fact.{Fact}
 use Rattle.rif_terms.specs.declared.instance.Instance.{Instance}
 use Rattle.rif_terms.specs.declared.rule.Rule.{Rule}
@@ -15,7 +15,8 @@ loop-place-preserved c =
     let place = c.loop-place.place in
     let before = c.loop-place.all.items in
     let later = instances_from (suc (place + 1)) (drop (place + 1) rules) facts in
-    let rows = c.as_slice-in-loop-place.ensures ∙ c.in_ok-rows.ensures ∙ ap (λ (w : List Fact). rows_of w rule) c.as_slice.ensures.facts in
+    let rows = c.as_slice-in-loop-place.ensures ∙ c.in_ok-rows.ensures
+        ∙ ap (λ (w : List Fact). rows_of w rule) c.as_slice.ensures.facts in
     let pushed = c.in_ok-push_instances.ensures
     ∙ ap (λ (n : ℕ). before ++ map (instance_of n) c.as_slice-in-loop-place.result.now) c.in_ok-number_at.ensures
     ∙ ap (λ (rs : List Row). before ++ map (instance_of (place + 1)) rs) rows in

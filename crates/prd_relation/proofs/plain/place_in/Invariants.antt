@@ -4,4 +4,5 @@ use Rattle.rif_terms.specs.Sets.{has}
 use Rattle.prd_relation.proofs.plain.place_in.Given as goal
 
 abbrev pub invariant-loop-place : goal.invariant-loop-place
-invariant-loop-place l = has instance_cmp (drop l.place l.instances) l.instance ≡ has instance_cmp l.instances l.instance
+invariant-loop-place l =
+    has instance_cmp (drop l.place l.instances) l.instance ≡ has instance_cmp l.instances l.instance

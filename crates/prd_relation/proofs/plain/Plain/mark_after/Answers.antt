@@ -1,4 +1,4 @@
-use Rattle.std.proofs.Common.{◌≡◌, ◌∙◌, false, List, map, length, slice_get, get_or, Some, ap, sym, arith}
+use Rattle.std.proofs.Common.{◌∙◌, false, List, map, length, slice_get, ap, sym, arith}
 use Rattle.std.proofs.lemmas.List.{length-reverse}
 use Rattle.rif_terms.specs.declared.instance.Instance.{Instance}
 use Rattle.prd_relation.specs.declared.mark.Mark.{Mark}
@@ -17,7 +17,8 @@ marks_of ms = map (mark_of ms) (newest_conflict_set ms)
 pub overflow_add-result : goal.overflow_add-result
 overflow_add-result c =
     let ms = c.args.self.now in
-    let at = sym (ap (λ (is : List Instance). slice_get is c.in-Some.place) c.conflict_set.ensures) ∙ c.in-Some.ensures.some in
+    let at = sym (ap (λ (is : List Instance). slice_get is c.in-Some.place) c.conflict_set.ensures)
+        ∙ c.in-Some.ensures.some in
     let are = c.as_slice.ensures.value ∙ c.self.invariant.1 ∙ ap marks_of c.self.view_is in
     let age = ap (λ (m : Mark). m.age)
     (mark_there c.args.pick.now ms c.args.instance.now c.in-Some.place none at c.as_slice.result.now are) in
@@ -30,13 +31,17 @@ overflow_add-result c =
 
 pub returns-then-before : goal.returns-then-before
 returns-then-before c =
-    let at = sym (ap (λ (is : List Instance). slice_get is c.in-Some.place) c.conflict_set.ensures) ∙ c.in-Some.ensures.some in
+    let at = sym (ap (λ (is : List Instance). slice_get is c.in-Some.place) c.conflict_set.ensures)
+        ∙ c.in-Some.ensures.some in
     let are = c.as_slice.ensures.value ∙ c.self.invariant.1 ∙ ap marks_of c.self.view_is in
-    next_refracted c.args.pick.now c.args.self.now c.args.instance.now c.in-Some.place none at c.as_slice.result.now are c.if-before.true
+    next_refracted c.args.pick.now c.args.self.now c.args.instance.now c.in-Some.place none at c.as_slice.result.now
+        are c.if-before.true
 
 pub returns-else-before : goal.returns-else-before
 returns-else-before c =
-    let at = sym (ap (λ (is : List Instance). slice_get is c.in-Some.place) c.conflict_set.ensures) ∙ c.in-Some.ensures.some in
+    let at = sym (ap (λ (is : List Instance). slice_get is c.in-Some.place) c.conflict_set.ensures)
+        ∙ c.in-Some.ensures.some in
     let are = c.as_slice.ensures.value ∙ c.self.invariant.1 ∙ ap marks_of c.self.view_is in
-    next_fired c.args.pick.now c.args.self.now c.args.instance.now c.in-Some.place none at c.as_slice.result.now are c.has_fired.result
+    next_fired c.args.pick.now c.args.self.now c.args.instance.now c.in-Some.place none at c.as_slice.result.now are
+    c.has_fired.result
     c.if-before.false c.has_fired.ensures

@@ -9,5 +9,6 @@ invariant_of-self-2 c =
     let old = c.self.inside.moments.items in
     let next : Moment = record { conflict_set = c.in_ok-conflict_set.conflict_set; pick = c.args.pick } in
     marks_pushed old c.push.new.self.items next c.in_ok-marks.marks.items c.in_ok-push.ensures.items
-    (c.in_ok-marks.ensures ∙ ap (λ (ms : List Moment). map (next_mark c.args.pick ms) c.as_slice.result.now) (sym c.self.view_is)
+    (c.in_ok-marks.ensures
+    ∙ ap (λ (ms : List Moment). map (next_mark c.args.pick ms) c.as_slice.result.now) (sym c.self.view_is)
     ∙ ap (map (next_mark c.args.pick (reverse old))) c.as_slice.ensures)
