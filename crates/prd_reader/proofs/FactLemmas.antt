@@ -123,7 +123,7 @@ fact_read ls fact given =
     let tree = tree_of made.term made.tail in
     let value : fact_of (statement_value [] made.term made.tail) ≡ Some fact = ap fact_of (made.value ∙ same) ∙ ended.2 in
     let front : ls ≡ (spell_term made.term ++ spell_tail made.tail) ++ [] =
-        made.spelled ∙ ap (λ (xs : List Leaf). (spell_term made.term ++ spell_tail made.tail) ++ xs) (none_left found.0.1 last.0 last.1) in
+    made.spelled ∙ ap (λ (xs : List Leaf). (spell_term made.term ++ spell_tail made.tail) ++ xs) (none_left found.0.1 last.0 last.1) in
     record {
       tree = tree;
       spelled = same_spelling made.term made.tail ∙ sym (front ∙ append-nil (spell_term made.term ++ spell_tail made.tail));

@@ -21,7 +21,7 @@ rises_bound : (low : ℕ) (ps : List (ℕ × Const)) (v : ℕ) (c : Const) → R
 rises_bound low [] v c rises above absent = (above, tt)
 rises_bound low (p ∷ ps) v c rises above absent =
     rises_step low p ps v c (nat_lt v p.0) (p.0 == v) refl refl rises above absent
-        (λ after rest. rises_bound p.0 ps v c rises.1 after rest)
+    (λ after rest. rises_bound p.0 ps v c rises.1 after rest)
 
 binding_step : (p : ℕ × Const) (ps : List (ℕ × Const)) (v : ℕ) (c : Const) (before same : Bool)
     → nat_lt v p.0 ≡ before → (p.0 == v) ≡ same → RisesFrom p.0 ps → cond same (Some p.1) (value_at ps v) ≡ None

@@ -54,6 +54,6 @@ chosen_is doc ms unrefracted highest youngest first a b c d =
     let eager = unrefracted_instances ms (newest_conflict_set ms) in
     let above = b ∙ ap (best_by is_outranked) a ∙ best_by_map f is_outranked (is_lower doc) (λ i j. refl) eager in
     let allowed = c ∙ ap (best_by is_staler) above
-        ∙ best_by_map f is_staler (is_older ms) (λ i j. refl) (highest_instances doc eager) in
+    ∙ best_by_map f is_staler (is_older ms) (λ i j. refl) (highest_instances doc eager) in
     ap (option_map (λ (c : Candidate). c.instance)) (d ∙ ap (λ (cs : List Candidate). slice_get cs 0) allowed)
     ∙ first_of_map doc ms (allowed_instances doc ms)

@@ -46,7 +46,7 @@ chosen_unrefracted doc ms i chosen =
     let eager = unrefracted_instances ms (newest_conflict_set ms) in
     let highest = highest_instances doc eager in
     let young = kept (λ x. not (list_any (is_older ms x) highest)) highest i
-        (has_first (allowed_instances doc ms) i chosen) in
+    (has_first (allowed_instances doc ms) i chosen) in
     let high = kept (λ x. not (list_any (is_lower doc x) eager)) eager i young.1 in
     let free = kept (λ x. not (is_refracted ms x)) (newest_conflict_set ms) i high.1 in
     (free.1, negated (is_refracted ms i) free.0)
@@ -127,7 +127,7 @@ nothing_chosen doc ms =
     let eager = unrefracted_instances ms (newest_conflict_set ms) in (
       λ none.
           let lower = λ (i j k : Instance). lower_trans (priority_of doc i.rule) (priority_of doc j.rule)
-              (priority_of doc k.rule) in
+          (priority_of doc k.rule) in
           let older = λ (i j k : Instance). older_trans (age_of ms i) (age_of ms j) (age_of ms k) in
           best_of_some (is_lower doc) lower (λ i. lower_irr (priority_of doc i.rule)) eager
           (best_of_some (is_older ms) older (λ i. older_irr (age_of ms i)) (highest_instances doc eager)

@@ -36,9 +36,11 @@ set_append cmp (x ∷ xs) ys s t below =
 below_of_row : (n : ℕ) (row : Row) (rows : List Row) → AllByRecursion (λ z. binding_cmp row z ≡ Less) rows
     → AllByRecursion (λ z. instance_cmp (instance_of n row) z ≡ Less) (map (instance_of n) rows)
 below_of_row n row [] below = tt
-below_of_row n row (z ∷ zs) below =
-    (ap (λ (o : Ordering). ordering_then o (binding_cmp row z)) (sym (nat_cmp_is n n Equal refl))
-        ∙ below.0, below_of_row n row zs below.1)
+below_of_row n row (z ∷ zs) below = (
+  ap (λ (o : Ordering). ordering_then o (binding_cmp row z)) (sym (nat_cmp_is n n Equal refl))
+      ∙ below.0,
+  below_of_row n row zs below.1,
+)
 
 -- the instances of one rule
 set_of_rows : (n : ℕ) (rows : List Row) → IsSet binding_cmp rows → IsSet instance_cmp (map (instance_of n) rows)
@@ -61,9 +63,10 @@ from_number n m (rule ∷ rules) w up =
 below_later : (n : ℕ) (row : Row) (zs : List Instance) → AllByRecursion (λ (z : Instance). suc n ≤ z.rule) zs
     → AllByRecursion (λ z. instance_cmp (instance_of n row) z ≡ Less) zs
 below_later n row [] later = tt
-below_later n row (z ∷ zs) later =
-    (ap (λ (o : Ordering). ordering_then o (binding_cmp row z.row)) (sym (nat_cmp_is n z.rule Less later.0)),
-        below_later n row zs later.1)
+below_later n row (z ∷ zs) later = (
+  ap (λ (o : Ordering). ordering_then o (binding_cmp row z.row)) (sym (nat_cmp_is n z.rule Less later.0)),
+  below_later n row zs later.1,
+)
 
 rows_below_later : (n : ℕ) (rows : List Row) (zs : List Instance) → AllByRecursion (λ (z : Instance). suc n ≤ z.rule) zs
     → AllByRecursion (λ x. AllByRecursion (λ z. instance_cmp x z ≡ Less) zs) (map (instance_of n) rows)
@@ -80,7 +83,7 @@ set_from n (rule ∷ rules) w =
     set_append instance_cmp (map (instance_of n) (rows_of w rule)) (instances_from (suc n) rules w)
     (set_of_rows n (rows_of w rule) (set_of_rule w rule)) (set_from (suc n) rules w)
     (rows_below_later n (rows_of w rule) (instances_from (suc n) rules w)
-        (from_number (suc n) (suc n) rules w (omega arith)))
+    (from_number (suc n) (suc n) rules w (omega arith)))
 
 -- a conflict set is in order without repeats
 pub conflict_set_is_set : (doc : Doc) (w : List Fact) → IsSet instance_cmp (conflict_set doc w)

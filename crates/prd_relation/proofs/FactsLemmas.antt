@@ -11,7 +11,7 @@ pub facts_without : (test : Fact → Bool) (given old new : List Fact) → old �
     → new ≡ without test old → IsFacts new
 facts_without test given old new same facts is =
     subst IsFacts (sym (is ∙ ap (without test) same))
-        (set_filter total_facts exact_facts (λ fact. not (test fact)) given facts)
+    (set_filter total_facts exact_facts (λ fact. not (test fact)) given facts)
 
 -- a state with one more fact is a state
 pub facts_with : (given old new : List Fact) (fact : Fact) → old ≡ given → IsFacts given → new ≡ with_fact given fact

@@ -55,7 +55,7 @@ refraction_says : (moments : List Moment) (i : Instance) → is_refracted moment
 refraction_says [] i is = absurd (cc is)
 refraction_says (newest ∷ earlier) i is =
     let parts = split (has_instance newest i) (has instance_cmp (newest_conflict_set earlier) i)
-        (is_pick newest.pick i) (is_refracted earlier i) is in
+    (is_pick newest.pick i) (is_refracted earlier i) is in
     elim parts.1 [
       | inl fired ↦ refracted_here newest earlier i parts.0 fired.0 fired.1
       | inr before ↦ refracted_on newest earlier i parts.0 (refraction_says earlier i before)
@@ -67,12 +67,12 @@ refracted_at : (later : List Moment) (reached fired_at : Moment) (earlier : List
     → is_refracted (later ++ reached ∷ fired_at ∷ earlier) i ≡ true
 refracted_at [] reached fired_at earlier i picked all =
     by_firing (has_instance reached i) (has_instance fired_at i) (is_pick reached.pick i)
-        (is_refracted (fired_at ∷ earlier) i) all.0 (all.1).0 picked
+    (is_refracted (fired_at ∷ earlier) i) all.0 (all.1).0 picked
 refracted_at (m ∷ later) reached fired_at earlier i picked all =
     from_before (has_instance m i) (has instance_cmp (newest_conflict_set (later ++ reached ∷ fired_at ∷ earlier)) i)
     (is_pick m.pick i)
     (is_refracted (later ++ reached ∷ fired_at ∷ earlier) i) all.0
-        (refracted_at later reached fired_at earlier i picked all.1)
+    (refracted_at later reached fired_at earlier i picked all.1)
 
 refraction_said : (moments : List Moment) (i : Instance) → IsRefracted moments i → is_refracted moments i ≡ true
 refraction_said moments i said =
@@ -117,12 +117,12 @@ age_at : (recent earlier : List Moment) (i : Instance) → AllByRecursion (λ mo
 age_at [] earlier i all ends = ended earlier i ends
 age_at (m ∷ recent) earlier i all ends =
     ap (λ (b : Bool). if b then suc (age_of (recent ++ earlier) i) else 0) all.0
-        ∙ ap suc (age_at recent earlier i all.1 ends)
+    ∙ ap suc (age_at recent earlier i all.1 ends)
 
 age_said : (moments : List Moment) (i : Instance) (n : ℕ) → IsAge moments i n → age_of moments i ≡ n
 age_said moments i n said =
     ap (λ (ms : List Moment). age_of ms i) said.all ∙ age_at said.recent said.earlier i said.there said.ends
-        ∙ said.count
+    ∙ said.count
 
 -- the age is the one number that the sentence says
 pub ages_are : AreAgesSaid

@@ -19,4 +19,4 @@ none_of_lengths [] row (c ∷ cs) differ = refl
 none_of_lengths (t ∷ ts) row [] differ = refl
 none_of_lengths (t ∷ ts) row (c ∷ cs) differ =
     then_none (match_term row t c) (λ next. match_terms ts next cs)
-        (λ next. none_of_lengths ts next cs (λ same. differ (ap suc same)))
+    (λ next. none_of_lengths ts next cs (λ same. differ (ap suc same)))

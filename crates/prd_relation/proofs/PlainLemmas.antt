@@ -68,7 +68,7 @@ module _ (pick : Option Instance) (ms : List Moment) (i : Instance) (place : ℕ
       let there = has_at (newest_conflict_set ms) place i at in
       let older = add-one (get_or marks place d).age ∙ ap (λ (m : Mark). suc m.age) mark_there in
       let spent : fired ≡ ((has instance_cmp (newest_conflict_set ms) i && is_pick pick i) || is_refracted ms i) =
-          grind (arith, there, is) in
+      grind (arith, there, is) in
       λ k. record { age = older k; refracted = spent k }
 
   -- a refracted instance stays so
@@ -92,7 +92,7 @@ next_is : (pick : Option Instance) (ms : List Moment) (m : Moment) (i : Instance
     → next_mark pick ms i ≡ mark_of (m ∷ ms) i
 next_is pick ms m i same there =
     let spent = λ (p : Option Instance). (has instance_cmp (newest_conflict_set ms) i && is_pick p i) || is_refracted
-        ms i in
+    ms i in
     let older = ap (λ (b : Bool). if b then suc (age_of ms i) else 0) (sym there) in
     let refracted = ap spent (sym same) ∙ ap (λ (b : Bool). b && spent m.pick) (sym there) in
     λ k. record { age = older k; refracted = refracted k }

@@ -43,7 +43,7 @@ next doc given before after fired now batch old new plain plainer replayed turn 
       (subst (λ (f : Bool). IsReplayFrom doc (session_after doc (session_at_end doc first_session replayed.done) batch)
       f after more) turn.fired_is
       (subst (λ (s : Session). IsReplayFrom doc s now after more) (end_more doc first_session replayed.done batch)
-          rest))));
+      rest))));
 }
 
 pub next_given : (doc : Doc) (given left : List (List Entry)) (now : Bool) (batch : List Entry) (old new : List Turn)
@@ -53,7 +53,7 @@ pub next_given : (doc : Doc) (given left : List (List Entry)) (now : Bool) (batc
     → IsReplayed doc given left now new plainer
 next_given doc given left now batch old new plain plainer replayed turn =
     next doc given (batch ∷ left) left false now batch old new plain plainer replayed (turn _ replayed.shows)
-        (λ more rest. (refl, rest))
+    (λ more rest. (refl, rest))
 
 pub next_empty : (doc : Doc) (given left : List (List Entry)) (now : Bool) (old new : List Turn)
     (plain plainer : PlainSession)
@@ -62,7 +62,7 @@ pub next_empty : (doc : Doc) (given left : List (List Entry)) (now : Bool) (old 
     → IsReplayed doc given left now new plainer
 next_empty doc given left now old new plain plainer replayed turn =
     next doc given left left true now [] old new plain plainer replayed (turn _ replayed.shows)
-        (λ more rest. (refl, rest))
+    (λ more rest. (refl, rest))
 
 -- nothing is done yet
 pub none_replayed : (doc : Doc) (given : List (List Entry)) (plain : PlainSession) → Shows doc plain first_session

@@ -40,7 +40,7 @@ pub script_clients : (lines : List (List ℕ)) (names : List (List ℕ)) (items 
 script_clients lines names items is =
     let sent = sent_by is.given in
     let all : All (λ (one : ℕ × Item). one.0 < length names) (numbered_items names sent) =
-        subst (λ (ns : List (List ℕ)). All (λ (one : ℕ × Item). one.0 < length ns) (numbered_items ns sent)) (sym is.clients) (all_of_clients sent) in
+    subst (λ (ns : List (List ℕ)). All (λ (one : ℕ × Item). one.0 < length ns) (numbered_items ns sent)) (sym is.clients) (all_of_clients sent) in
     subst (λ (xs : List (ℕ × Item)). All (λ (one : ℕ × Item). one.0 < length names) xs) (sym is.sent) all
 
 -- a document without tokens is none
@@ -86,9 +86,9 @@ one_job bytes a b first second =
     let t = script_again (script_lines bytes) b.names b.items second.script in
     let same : s.0 ≡ t.0 = some_same s.0 t.0 (sym s.1 ∙ t.1) in
     job_same a b
-        (same_documents (document_text bytes) a.doc b.doc first.document second.document)
-        (sym s.2 ∙ (ap (λ (x : Script). x.names) same ∙ t.2))
-        (sym s.3 ∙ (ap (λ (x : Script). x.items) same ∙ t.3))
+    (same_documents (document_text bytes) a.doc b.doc first.document second.document)
+    (sym s.2 ∙ (ap (λ (x : Script). x.names) same ∙ t.2))
+    (sym s.3 ∙ (ap (λ (x : Script). x.items) same ∙ t.3))
 
 -- a job whose script isn't read is none
 pub no_script : (bytes : List ℕ) (job : Job) → with_lines no_lines (script_lines bytes) ≡ None → IsFirstFormJob bytes job → ⊥

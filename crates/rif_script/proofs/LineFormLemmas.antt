@@ -79,14 +79,14 @@ item_read ls item given = elim (chosen (begins_word (codes "assert") ls) _ _ _ g
   | inl here ↦
       let fact = bind_some (fact_at (drop 1 ls)) _ item here.1 in
       subst (IsItemForm ls) (some_same (Change (Assert fact.0)) item fact.2)
-          (drop 1 ls, begins_with_word (codes "assert") ls here.0, fact_read (drop 1 ls) fact.0 fact.1)
+      (drop 1 ls, begins_with_word (codes "assert") ls here.0, fact_read (drop 1 ls) fact.0 fact.1)
   | inr other ↦ elim (chosen (begins_word (codes "retract") ls) _ _ _ other.1) [
-      | inl here ↦
-          let fact = bind_some (fact_at (drop 1 ls)) _ item here.1 in
-          subst (IsItemForm ls) (some_same (Change (Retract fact.0)) item fact.2)
-              (drop 1 ls, begins_with_word (codes "retract") ls here.0, fact_read (drop 1 ls) fact.0 fact.1)
-      | inr last ↦ firing_read ls item last.1
-    ]
+    | inl here ↦
+        let fact = bind_some (fact_at (drop 1 ls)) _ item here.1 in
+        subst (IsItemForm ls) (some_same (Change (Retract fact.0)) item fact.2)
+        (drop 1 ls, begins_with_word (codes "retract") ls here.0, fact_read (drop 1 ls) fact.0 fact.1)
+    | inr last ↦ firing_read ls item last.1
+  ]
 ]
 
 item_again : (ls : List Leaf) (item : Item) → IsItemForm ls item → item_at ls ≡ Some item
@@ -108,7 +108,7 @@ sent_read ls sent given =
     let item = bind_some (item_at (drop 1 ls)) _ sent name.2 in
     let front = name_read ls name.0 name.1 in
     subst (IsSentForm ls) (some_same (name.0, item.0) sent item.2)
-        (record { rest = drop 1 ls; front = front.0; name = front.1; item = item_read (drop 1 ls) item.0 item.1 })
+    (record { rest = drop 1 ls; front = front.0; name = front.1; item = item_read (drop 1 ls) item.0 item.1 })
 
 -- what a client sent is read behind its name
 sent_front : (name : List ℕ) (rest : List Leaf) (item : Item) → is_client_name name ≡ true → IsItemForm rest item →

@@ -142,9 +142,9 @@ known_left_out known (n ∷ ns) v has = elim (either (bytes_eq v n)) [
       let here : has_name known n ≡ true = ap (has_name known) (sym (same_bytes v n same)) ∙ has in
       rw (same, here) (known_left_out known ns v has)
   | inr other ↦ elim (either (has_name known n)) [
-      | inl here ↦ rw (other, here) (known_left_out known ns v has)
-      | inr new ↦ rw (other, new) (ap (λ (xs : List (List ℕ)). n ∷ xs) (known_left_out known ns v has))
-    ]
+    | inl here ↦ rw (other, here) (known_left_out known ns v has)
+    | inr new ↦ rw (other, new) (ap (λ (xs : List (List ℕ)). n ∷ xs) (known_left_out known ns v has))
+  ]
 ]
 
 has_last : (known : List (List ℕ)) (v n : List ℕ) → has_name (known ++ v ∷ []) n ≡ (has_name known n || bytes_eq v n)
@@ -162,13 +162,13 @@ new_left_out : (known ns : List (List ℕ)) (v : List ℕ) → new_among (known 
 new_left_out known [] v = refl
 new_left_out known (n ∷ ns) v = elim (either (bytes_eq v n)) [
   | inl same ↦ elim (either (has_name known n)) [
-      | inl here ↦ rw (has_last known v n, here, same) (new_left_out known ns v)
-      | inr new ↦ rw (has_last known v n, new, same) (new_left_out known ns v)
-    ]
+    | inl here ↦ rw (has_last known v n, here, same) (new_left_out known ns v)
+    | inr new ↦ rw (has_last known v n, new, same) (new_left_out known ns v)
+  ]
   | inr other ↦ elim (either (has_name known n)) [
-      | inl here ↦ rw (has_last known v n, here, other, here) (new_left_out known ns v)
-      | inr new ↦ rw (has_last known v n, new, other, new) (ap (λ (xs : List (List ℕ)). n ∷ xs) (new_left_out known ns v))
-    ]
+    | inl here ↦ rw (has_last known v n, here, other, here) (new_left_out known ns v)
+    | inr new ↦ rw (has_last known v n, new, other, new) (ap (λ (xs : List (List ℕ)). n ∷ xs) (new_left_out known ns v))
+  ]
 ]
 
 known_and_new : (known : List (List ℕ)) (sent : List (List ℕ × Item)) → names_after known sent ≡ known ++ new_among known (names_of sent)
@@ -196,7 +196,7 @@ clients_by : (names : List (List ℕ)) (sent : List (List ℕ × Item)) (most : 
 clients_by names [] most few = tt
 clients_by names (one ∷ rest) most few =
     let here : place_of names one.0 < length (names_with names one.0) =
-        subst (λ (k : ℕ). k < length (names_with names one.0)) (client_place names one.0) (place_within (names_with names one.0) one.0 (has_client names one.0)) in
+    subst (λ (k : ℕ). k < length (names_with names one.0)) (client_place names one.0) (place_within (names_with names one.0) one.0 (has_client names one.0)) in
     let grow = more_names (names_with names one.0) rest in
     (omega arith, clients_by (names_with names one.0) rest most few)
 
@@ -205,4 +205,4 @@ all_of_clients sent =
     let most = length (names_after [] sent) in
     subst (λ (ns : List (List ℕ)). All (λ (one : ℕ × Item). one.0 < length ns) (numbered_items ns sent)) (names_are_first sent)
     (subst (λ (is : List (ℕ × Item)). All (λ (one : ℕ × Item). one.0 < most) is) (numbers_are_final [] sent)
-        (All-from_recursion (λ (one : ℕ × Item). one.0 < most) (numbered_from [] sent) (clients_by [] sent most (omega arith))))
+    (All-from_recursion (λ (one : ℕ × Item). one.0 < most) (numbered_from [] sent) (clients_by [] sent most (omega arith))))

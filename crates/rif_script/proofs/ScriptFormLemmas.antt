@@ -108,11 +108,11 @@ sent_read s one next given =
     let place : place_of s.names one.0 ≡ client.0.0 = ap (λ (x : ℕ × List (List ℕ)). x.0) c.1 in
     let names : names_with s.names one.0 ≡ client.0.1 = ap (λ (x : ℕ × List (List ℕ)). x.1) c.1 in
     let all : s.items ++ (place_of s.names one.0, one.1) ∷ [] ≡ items.0 =
-        ap (λ (k : ℕ). s.items ++ (k, one.1) ∷ []) place ∙ i.1 in
+    ap (λ (k : ℕ). s.items ++ (k, one.1) ∷ []) place ∙ i.1 in
     let same : next_script s one ≡ record { names = client.0.1; items = items.0; budgets = budgets.0 } =
-        ap (λ (ns : List (List ℕ)). record { names = ns; items = s.items ++ (place_of s.names one.0, one.1) ∷ []; budgets = s.budgets + budget_of one.1 }) names
-        ∙ (ap (λ (is : List (ℕ × Item)). record { names = client.0.1; items = is; budgets = s.budgets + budget_of one.1 }) all
-        ∙ ap (λ (n : ℕ). record { names = client.0.1; items = items.0; budgets = n }) b.1) in
+    ap (λ (ns : List (List ℕ)). record { names = ns; items = s.items ++ (place_of s.names one.0, one.1) ∷ []; budgets = s.budgets + budget_of one.1 }) names
+    ∙ (ap (λ (is : List (ℕ × Item)). record { names = client.0.1; items = is; budgets = s.budgets + budget_of one.1 }) all
+    ∙ ap (λ (n : ℕ). record { names = client.0.1; items = items.0; budgets = n }) b.1) in
     (record { client = c.0; items = i.0; budgets = b.0 }, same ∙ some_same _ next items.2)
 
 sent_again : (s : Script) (one : List ℕ × Item) → HasRoom s one → with_sent s one.0 one.1 ≡ Some (next_script s one)
@@ -231,7 +231,7 @@ lines_again s (line ∷ lines) [] are small = absurd are
 lines_again s (line ∷ lines) (None ∷ given) are small = rw (line_again line None are.0) (lines_again s lines given are.1 small)
 lines_again s (line ∷ lines) (Some one ∷ given) are small =
     rw (line_again line (Some one) are.0, sent_again s one (room_before s one (sent_by given) small))
-        (lines_again (next_script s one) lines given are.1 small)
+    (lines_again (next_script s one) lines given are.1 small)
 
 -- the parts of the script that is made
 names_are : (s : Script) (sent : List (List ℕ × Item)) → (script_after s sent).names ≡ names_after s.names sent

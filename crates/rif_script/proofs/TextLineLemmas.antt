@@ -15,7 +15,7 @@ pub first_of_lines : (text : List ℕ) → text ≢ [] → lines_of text ≡ tak
 first_of_lines [] some_ = absurd (some_ refl)
 first_of_lines (b ∷ bs) some_ =
     elim (b == 10) as (λ (is : Bool). cond is ((b ∷ []) ∷ lines_of bs) (with_byte b (lines_of bs))
-        ≡ take (cond is 1 (suc (line_length bs))) (b ∷ bs) ∷ lines_of (drop (cond is 1 (suc (line_length bs))) (b ∷ bs))) [
+    ≡ take (cond is 1 (suc (line_length bs))) (b ∷ bs) ∷ lines_of (drop (cond is 1 (suc (line_length bs))) (b ∷ bs))) [
       | true ↦ refl
       | false ↦ longer_line b bs (first_of_lines bs)
     ]
@@ -63,11 +63,11 @@ pub document_so_far : (at n : ℕ) (text : List ℕ) → n ≡ line_length (drop
 document_so_far at n text is some_ other before =
     let k = line_length (drop at text) in
     let more : document_text (drop at text) ≡ take k (drop at text) ++ document_text (drop (at + k) text) =
-        document_goes_on (drop at text) some_ other ∙ ap (λ (xs : List ℕ). take k (drop at text) ++ document_text xs) (drop-drop k at text) in
+    document_goes_on (drop at text) some_ other ∙ ap (λ (xs : List ℕ). take k (drop at text) ++ document_text xs) (drop-drop k at text) in
     let all : document_text text ≡ take (at + k) text ++ document_text (drop (at + k) text) =
-        before ∙ (ap (λ (xs : List ℕ). take at text ++ xs) more
-        ∙ (sym (append_assoc (take at text) (take k (drop at text)) (document_text (drop (at + k) text)))
-        ∙ ap (λ (xs : List ℕ). xs ++ document_text (drop (at + k) text)) (sym (take-add at k text)))) in
+    before ∙ (ap (λ (xs : List ℕ). take at text ++ xs) more
+    ∙ (sym (append_assoc (take at text) (take k (drop at text)) (document_text (drop (at + k) text)))
+    ∙ ap (λ (xs : List ℕ). xs ++ document_text (drop (at + k) text)) (sym (take-add at k text)))) in
     subst (λ (m : ℕ). document_text text ≡ take (at + m) text ++ document_text (drop (at + m) text)) (sym is) all
 
 pub script_so_far : (at n : ℕ) (text : List ℕ) → n ≡ line_length (drop at text) → drop at text ≢ [] →
@@ -76,7 +76,7 @@ pub script_so_far : (at n : ℕ) (text : List ℕ) → n ≡ line_length (drop a
 script_so_far at n text is some_ other before =
     let k = line_length (drop at text) in
     let all : script_lines text ≡ script_lines (drop (at + k) text) =
-        before ∙ (script_goes_on (drop at text) some_ other ∙ ap script_lines (drop-drop k at text)) in
+    before ∙ (script_goes_on (drop at text) some_ other ∙ ap script_lines (drop-drop k at text)) in
     subst (λ (m : ℕ). script_lines text ≡ script_lines (drop (at + m) text)) (sym is) all
 
 pub some_left : (at : ℕ) (text : List ℕ) → at < length text → drop at text ≢ []

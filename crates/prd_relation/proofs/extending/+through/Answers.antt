@@ -7,7 +7,7 @@ use Rattle.prd_relation.proofs.extending.+through.Goals as goal
 pub rows_through-returns-in-Or : goal.rows_through-returns-in-Or
 rows_through-returns-in-Or t c =
     rw (c.in-Or.is, through_or, ← c.as_slice-in-Or.ensures, ← c.as_slice-in-Or-2.ensures.value)
-        c.rows_through_any.ensures
+    c.rows_through_any.ensures
 
 pub rows_outside-loop-row-preserved : goal.rows_outside-loop-row-preserved
 rows_outside-loop-row-preserved t c =

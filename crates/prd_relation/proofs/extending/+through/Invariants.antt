@@ -5,7 +5,7 @@ use Rattle.prd_relation.proofs.extending.+through.Given as goal
 abbrev pub invariant-rows_through_each-loop-member : goal.invariant-rows_through_each-loop-member
 invariant-rows_through_each-loop-member l =
     in_turn (map (through l.facts) (drop l.member-index l.members)) l.found.items ≡ in_turn
-        (map (through l.facts) l.members) l.initial.found.items
+    (map (through l.facts) l.members) l.initial.found.items
 
 abbrev pub invariant-rows_through_any-loop-branch : goal.invariant-rows_through_any-loop-branch
 invariant-rows_through_any-loop-branch l =

@@ -11,4 +11,4 @@ returns c =
     let search = c.find_in_set.ensures in
     let within = err_within c.find_in_set.result (length c.args.facts.now) search.bound in
     rw (← fact_order_is)
-        (record { found = search.found; within = within; absent = search.absent; place = search.place })
+    (record { found = search.found; within = within; absent = search.absent; place = search.place })

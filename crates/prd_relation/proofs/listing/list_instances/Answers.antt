@@ -16,7 +16,7 @@ loop-place-preserved c =
     let before = c.loop-place.all.items in
     let later = instances_from (suc (place + 1)) (drop (place + 1) rules) facts in
     let rows = c.as_slice-in-loop-place.ensures ∙ c.in_ok-rows.ensures
-        ∙ ap (λ (w : List Fact). rows_of w rule) c.as_slice.ensures.facts in
+    ∙ ap (λ (w : List Fact). rows_of w rule) c.as_slice.ensures.facts in
     let pushed = c.in_ok-push_instances.ensures
     ∙ ap (λ (n : ℕ). before ++ map (instance_of n) c.as_slice-in-loop-place.result.now) c.in_ok-number_at.ensures
     ∙ ap (λ (rs : List Row). before ++ map (instance_of (place + 1)) rs) rows in

@@ -26,7 +26,7 @@ loop-fired-preserved c = λ given left replayed.
     (λ s shown. subst (λ (batch : List Entry). IsNextTurn c.args.doc.now s batch c.in_ok-fired-2.fired
     c.loop-fired.turns.items
     c.make_turn-in-loop-fired.new.turns.items c.make_turn-in-loop-fired.new.session) c.new.ensures
-        (c.in_ok-fired-2.ensures.next s shown))
+    (c.in_ok-fired-2.ensures.next s shown))
 
 pub loop-fired-smaller : goal.loop-fired-smaller
 loop-fired-smaller c =

@@ -32,5 +32,5 @@ returns c =
     let none : c.loop-batch.left.items ≡ [] =
     none_left c.loop-batch.left.items (c.in_default.ensures.items ∙ c.in_default.ensures.rest) in
     let end = ends c.args.doc.now c.args.batches.items c.loop-batch.left.items c.loop-batch.turns.items
-        c.loop-batch.session none c.loop-batch.invariant in
+    c.loop-batch.session none c.loop-batch.invariant in
     (end.0, end.1, c.from_vec.ensures ∙ end.2, c.len.ensures ∙ end.3)

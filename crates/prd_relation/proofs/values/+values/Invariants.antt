@@ -6,4 +6,4 @@ use Rattle.prd_relation.proofs.values.+values.Given as goal
 abbrev pub invariant-values_in-loop-term : goal.invariant-values_in-loop-term
 invariant-values_in-loop-term l =
     option_map (λ more. l.items.items ++ more) (all_of (map (value_of l.row) (drop l.term-index l.terms))) ≡ values_of
-        l.row l.terms
+    l.row l.terms

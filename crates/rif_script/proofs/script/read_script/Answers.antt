@@ -11,7 +11,7 @@ returns-in_err-script c =
     let some_ = not_empty c.loop-rest.rest.now c.is_empty.result c.is_empty.ensures c.loop-rest-test.true in
     let p = err_from_is_err_and c.from_residual.result c.from_residual.ensures.1 in
     rw (p.1, p.2) (refuses_as c.in_err-script.field-0.0 _ _ c.in_err-script.ensures (λ none.
-        c.loop-rest.invariant.lines ∙ line_ends c.loop-rest.script c.loop-rest.rest.now _ _ some_ c.first_line.ensures.line c.first_line.ensures.behind none))
+    c.loop-rest.invariant.lines ∙ line_ends c.loop-rest.script c.loop-rest.rest.now _ _ some_ c.first_line.ensures.line c.first_line.ensures.behind none))
 
 pub loop-rest-smaller : goal.loop-rest-smaller
 loop-rest-smaller c =

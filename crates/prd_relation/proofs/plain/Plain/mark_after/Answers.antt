@@ -18,7 +18,7 @@ pub overflow_add-result : goal.overflow_add-result
 overflow_add-result c =
     let ms = c.args.self.now in
     let at = sym (ap (λ (is : List Instance). slice_get is c.in-Some.place) c.conflict_set.ensures)
-        ∙ c.in-Some.ensures.some in
+    ∙ c.in-Some.ensures.some in
     let are = c.as_slice.ensures.value ∙ c.self.invariant.1 ∙ ap marks_of c.self.view_is in
     let age = ap (λ (m : Mark). m.age)
     (mark_there c.args.pick.now ms c.args.instance.now c.in-Some.place none at c.as_slice.result.now are) in
@@ -32,15 +32,15 @@ overflow_add-result c =
 pub returns-then-before : goal.returns-then-before
 returns-then-before c =
     let at = sym (ap (λ (is : List Instance). slice_get is c.in-Some.place) c.conflict_set.ensures)
-        ∙ c.in-Some.ensures.some in
+    ∙ c.in-Some.ensures.some in
     let are = c.as_slice.ensures.value ∙ c.self.invariant.1 ∙ ap marks_of c.self.view_is in
     next_refracted c.args.pick.now c.args.self.now c.args.instance.now c.in-Some.place none at c.as_slice.result.now
-        are c.if-before.true
+    are c.if-before.true
 
 pub returns-else-before : goal.returns-else-before
 returns-else-before c =
     let at = sym (ap (λ (is : List Instance). slice_get is c.in-Some.place) c.conflict_set.ensures)
-        ∙ c.in-Some.ensures.some in
+    ∙ c.in-Some.ensures.some in
     let are = c.as_slice.ensures.value ∙ c.self.invariant.1 ∙ ap marks_of c.self.view_is in
     next_fired c.args.pick.now c.args.self.now c.args.instance.now c.in-Some.place none at c.as_slice.result.now are
     c.has_fired.result

@@ -10,4 +10,4 @@ invariant_of-result c =
     marks_pushed [] c.push-2.new.self.items first c.loop.marks.items
     (c.in_ok-push-2.ensures.items ∙ ap (λ (ms : List Moment). ms ++ first ∷ []) c.new-moments.ensures.items)
     (c.loop.invariant ∙ ap (map (next_mark None []))
-        (take_all c.loop.index c.as_slice-items.result.now c.loop-test.false ∙ c.as_slice-items.ensures))
+    (take_all c.loop.index c.as_slice-items.result.now c.loop-test.false ∙ c.as_slice-items.ensures))

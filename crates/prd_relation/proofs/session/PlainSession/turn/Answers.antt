@@ -15,4 +15,4 @@ returns-clause-shows c = λ s shown.
     subst (λ (ending : Option Act). Shows c.args.doc.now c.settle.new.self
     (outcome_after c.args.doc.now ending (session_with s c.args.batch)).session)
     (c.ending.ensures.act ∙ ap ending_act c.entries-2.ensures.entries)
-        (c.in_ok-settled.ensures.shows (session_with s c.args.batch) taken)
+    (c.in_ok-settled.ensures.shows (session_with s c.args.batch) taken)
