@@ -39,7 +39,8 @@ same_spelling : (o : TermTree) (tail : Tail) → spell_target (tree_of o tail) �
 same_spelling o (member_of c) = refl
 same_spelling o (with_pairs ps) = refl
 
-still_fits : (names : List (List ℕ)) (o : TermTree) (tail : Tail) → FitsTerm names o → FitsTail names tail → FitsTarget names (tree_of o tail)
+still_fits : (names : List (List ℕ)) (o : TermTree) (tail : Tail) → FitsTerm names o → FitsTail names tail →
+    FitsTarget names (tree_of o tail)
 still_fits names o (member_of c) fits more = (fits, more)
 still_fits names o (with_pairs ps) fits more = (fits, more)
 
@@ -58,16 +59,20 @@ frame_fact o s v = rw (ground_const o, ground_const s, ground_const v) refl
 -- the fact that a tree without variables is
 abbrev tree_fact : TargetTree → Option Fact
 tree_fact (target_member (constant o) (constant c)) = Some (MemberFact (const_value o) (const_value c))
-tree_fact (target_frame (constant o) (last_pair (constant s) (constant v))) = Some (FrameFact (const_value o) (const_value s) (const_value v))
+tree_fact (target_frame (constant o) (last_pair (constant s) (constant v))) =
+    Some (FrameFact (const_value o) (const_value s) (const_value v))
 tree_fact _ = None
 
 -- a statement without variables is that fact
-statement_fact : (o : TermTree) (tail : Tail) → FitsTerm [] o → FitsTail [] tail → fact_of (statement_value [] o tail) ≡ tree_fact (tree_of o tail)
+statement_fact : (o : TermTree) (tail : Tail) → FitsTerm [] o → FitsTail [] tail →
+    fact_of (statement_value [] o tail) ≡ tree_fact (tree_of o tail)
 statement_fact (constant o) (member_of (constant c)) fits more = member_fact (const_value o) (const_value c)
 statement_fact (constant o) (member_of (variable v)) fits more = absurd (cc)
-statement_fact (constant o) (with_pairs (last_pair (constant s) (constant v))) fits more = frame_fact (const_value o) (const_value s) (const_value v)
+statement_fact (constant o) (with_pairs (last_pair (constant s) (constant v))) fits more =
+    frame_fact (const_value o) (const_value s) (const_value v)
 statement_fact (constant o) (with_pairs (last_pair (variable s) v)) fits more = absurd (let bad = more.0 in cc)
-statement_fact (constant o) (with_pairs (last_pair (constant s) (variable v))) fits more = absurd (let bad = more.1 in cc)
+statement_fact (constant o) (with_pairs (last_pair (constant s) (variable v))) fits more =
+    absurd (let bad = more.1 in cc)
 statement_fact (variable v) tail fits more = absurd (cc)
 
 -- a tree's value is the fact's target where the tree is the fact
@@ -82,7 +87,8 @@ value_of_fact (target_frame (constant o) (last_pair (constant s) (variable v))) 
 value_of_fact (target_frame (constant o) (last_pair (variable s) v)) fact is = absurd (cc)
 value_of_fact (target_frame (variable o) ps) fact is = absurd (cc)
 
-member_of_value : (o c : Const) (fact : Fact) → MemberTarget (ConstTerm o) (ConstTerm c) ≡ fact_target fact → Some (MemberFact o c) ≡ Some fact
+member_of_value : (o c : Const) (fact : Fact) → MemberTarget (ConstTerm o) (ConstTerm c) ≡ fact_target fact →
+    Some (MemberFact o c) ≡ Some fact
 member_of_value o c (MemberFact p d) is =
     let first : ConstTerm o ≡ ConstTerm p = cc in
     let second : ConstTerm c ≡ ConstTerm d = cc in
@@ -102,13 +108,16 @@ frame_of_value o s v (FrameFact p t w) is =
 frame_of_value o s v (MemberFact p d) is = absurd (cc)
 frame_of_value o s v (AtomFact p cs) is = absurd (cc)
 
-fact_of_value : (tree : TargetTree) (fact : Fact) → FitsTarget [] tree → target_value [] tree ≡ fact_target fact → tree_fact tree ≡ Some fact
-fact_of_value (target_member (constant o) (constant c)) fact fits is = member_of_value (const_value o) (const_value c) fact is
+fact_of_value : (tree : TargetTree) (fact : Fact) → FitsTarget [] tree → target_value [] tree ≡ fact_target fact →
+    tree_fact tree ≡ Some fact
+fact_of_value (target_member (constant o) (constant c)) fact fits is =
+    member_of_value (const_value o) (const_value c) fact is
 fact_of_value (target_member (constant o) (variable c)) fact fits is = absurd (let bad = fits.1 in cc)
 fact_of_value (target_member (variable o) c) fact fits is = absurd (let bad = fits.0 in cc)
 fact_of_value (target_frame (constant o) (last_pair (constant s) (constant v))) fact fits is =
     frame_of_value (const_value o) (const_value s) (const_value v) fact is
-fact_of_value (target_frame (constant o) (last_pair (constant s) (variable v))) fact fits is = absurd (let bad = fits.1.1 in cc)
+fact_of_value (target_frame (constant o) (last_pair (constant s) (variable v))) fact fits is =
+    absurd (let bad = fits.1.1 in cc)
 fact_of_value (target_frame (constant o) (last_pair (variable s) v)) fact fits is = absurd (let bad = fits.1.0 in cc)
 fact_of_value (target_frame (variable o) ps) fact fits is = absurd (let bad = fits.0 in cc)
 
@@ -121,7 +130,8 @@ fact_read ls fact given =
     let same : found.0.0 ≡ ended.0 = (let e = last.2 in cc) in
     let made = statement_read [] ls found.0.0 found.0.1 found.1 in
     let tree = tree_of made.term made.tail in
-    let value : fact_of (statement_value [] made.term made.tail) ≡ Some fact = ap fact_of (made.value ∙ same) ∙ ended.2 in
+    let value : fact_of (statement_value [] made.term made.tail) ≡ Some fact =
+    ap fact_of (made.value ∙ same) ∙ ended.2 in
     let front : ls ≡ (spell_term made.term ++ spell_tail made.tail) ++ [] =
     made.spelled ∙ ap (λ (xs : List Leaf). (spell_term made.term ++ spell_tail made.tail) ++ xs) (none_left found.0.1 last.0 last.1) in
     record {
@@ -132,17 +142,21 @@ fact_read ls fact given =
     }
 
 -- what a statement's trees spell is read as their fact
-spelled_fact : (o : TermTree) (tail : Tail) (fact : Fact) → FitsTerm [] o → FitsTail [] tail → tree_fact (tree_of o tail) ≡ Some fact →
+spelled_fact : (o : TermTree) (tail : Tail) (fact : Fact) → FitsTerm [] o → FitsTail [] tail →
+    tree_fact (tree_of o tail) ≡ Some fact →
     fact_at ((spell_term o ++ spell_tail tail) ++ []) ≡ Some fact
 unfolding fact_at
-spelled_fact o tail fact fits more is = rw (statement_again [] o tail [] fits more) (statement_fact o tail fits more ∙ is)
+spelled_fact o tail fact fits more is =
+    rw (statement_again [] o tail [] fits more) (statement_fact o tail fits more ∙ is)
 
-fact_again_of : (o : TermTree) (tail : Tail) (fact : Fact) → FitsTerm [] o → FitsTail [] tail → tree_fact (tree_of o tail) ≡ Some fact →
+fact_again_of : (o : TermTree) (tail : Tail) (fact : Fact) → FitsTerm [] o → FitsTail [] tail →
+    tree_fact (tree_of o tail) ≡ Some fact →
     fact_at (spell_target (tree_of o tail)) ≡ Some fact
 fact_again_of o tail fact fits more is =
     ap fact_at (same_spelling o tail ∙ sym (append-nil (spell_term o ++ spell_tail tail))) ∙ spelled_fact o tail fact fits more is
 
-fact_again : (tree : TargetTree) (fact : Fact) → FitsTarget [] tree → target_value [] tree ≡ fact_target fact → fact_at (spell_target tree) ≡ Some fact
+fact_again : (tree : TargetTree) (fact : Fact) → FitsTarget [] tree → target_value [] tree ≡ fact_target fact →
+    fact_at (spell_target tree) ≡ Some fact
 fact_again (target_member o c) fact fits is =
     fact_again_of o (member_of c) fact fits.0 fits.1 (fact_of_value (target_member o c) fact fits is)
 fact_again (target_frame o ps) fact fits is =

@@ -36,7 +36,8 @@ some_same : {A : Type 0} (a b : A) → Some a ≡ Some b → a ≡ b
 some_same a b same = cc
 
 -- a script's items are of its clients
-pub script_clients : (lines : List (List ℕ)) (names : List (List ℕ)) (items : List (ℕ × Item)) → IsScript lines names items → AreOfClients names items
+pub script_clients : (lines : List (List ℕ)) (names : List (List ℕ)) (items : List (ℕ × Item)) →
+    IsScript lines names items → AreOfClients names items
 script_clients lines names items is =
     let sent = sent_by is.given in
     let all : All (λ (one : ℕ × Item). one.0 < length names) (numbered_items names sent) =
@@ -53,11 +54,13 @@ tokens_refused bytes (Refused refusal) refused = (refused.0, no_tokens bytes ref
 
 pub document_read : (bytes : List ℕ) (tokens : List Token) (r : Result Doc Fault) → tokens_in bytes ≡ Some tokens →
     IfOk r (IsFirstForm tokens bytes) → IfOk r (IsDocument bytes)
-document_read bytes tokens (Ok doc) given form = record { tokens = tokens; lexed = tokens_read bytes tokens given; form = form }
+document_read bytes tokens (Ok doc) given form =
+    record { tokens = tokens; lexed = tokens_read bytes tokens given; form = form }
 document_read bytes tokens (Err fault) given form = tt
 
 -- a document with other tokens than these is none
-pub only_tokens : (bytes : List ℕ) (tokens : List Token) → lexed bytes ≡ Ok tokens → ((doc : Doc) → IsFirstForm tokens bytes doc → ⊥) →
+pub only_tokens : (bytes : List ℕ) (tokens : List Token) → lexed bytes ≡ Ok tokens →
+    ((doc : Doc) → IsFirstForm tokens bytes doc → ⊥) →
     (doc : Doc) → IsDocument bytes doc → ⊥
 only_tokens bytes tokens is never doc document =
     never doc (subst (λ (ts : List Token). IsFirstForm ts bytes doc) (same_ok (lexed bytes) document.tokens tokens document.lexed is) document.form)
@@ -91,7 +94,8 @@ one_job bytes a b first second =
     (sym s.3 ∙ (ap (λ (x : Script). x.items) same ∙ t.3))
 
 -- a job whose script isn't read is none
-pub no_script : (bytes : List ℕ) (job : Job) → with_lines no_lines (script_lines bytes) ≡ None → IsFirstFormJob bytes job → ⊥
+pub no_script : (bytes : List ℕ) (job : Job) → with_lines no_lines (script_lines bytes) ≡ None →
+    IsFirstFormJob bytes job → ⊥
 no_script bytes job none is =
     let s = script_again (script_lines bytes) job.names job.items is.script in
     none_some (with_lines no_lines (script_lines bytes)) s.0 none s.1
@@ -102,21 +106,25 @@ pub left_out_job : (bytes : List ℕ) (fault : Fault) → fault ≡ Refused (Lef
 left_out_job bytes fault is short never = subst (RefusesJob bytes) (sym is) (inr (refl, short, never))
 
 -- a document's refusal is the job's
-pub document_refused : (bytes document : List ℕ) (fault : Fault) → document ≡ document_text bytes → length bytes ≤ MOST_INPUT_BYTES →
+pub document_refused : (bytes document : List ℕ) (fault : Fault) → document ≡ document_text bytes →
+    length bytes ≤ MOST_INPUT_BYTES →
     RefusesDocument document fault → RefusesJob bytes fault
 document_refused bytes document OutOfMemory is short refused = tt
 document_refused bytes document (Refused refusal) is short refused =
     inr (refused.0, short, λ job form. refused.1 job.doc (subst (λ (d : List ℕ). IsDocument d job.doc) (sym is) form.document))
 
-pub script_refused : (bytes : List ℕ) (lines : List (List ℕ)) (fault : Fault) → lines ≡ script_lines bytes → length bytes ≤ MOST_INPUT_BYTES →
+pub script_refused : (bytes : List ℕ) (lines : List (List ℕ)) (fault : Fault) → lines ≡ script_lines bytes →
+    length bytes ≤ MOST_INPUT_BYTES →
     Refuses fault (with_lines no_lines lines) → RefusesJob bytes fault
 script_refused bytes lines OutOfMemory is short refused = tt
 script_refused bytes lines (Refused refusal) is short refused =
     inr (refused.0, short, λ job form. no_script bytes job (ap (with_lines no_lines) (sym is) ∙ refused.1) form)
 
 -- a job is its document and its script
-pub job_made : (bytes document : List ℕ) (lines : List (List ℕ)) (doc : Doc) (s : Script) → length bytes ≤ MOST_INPUT_BYTES → list_all is_ascii bytes ≡ true →
-    document ≡ document_text bytes → lines ≡ script_lines bytes → IsDocument document doc → with_lines no_lines lines ≡ Some s →
+pub job_made : (bytes document : List ℕ) (lines : List (List ℕ)) (doc : Doc) (s : Script) →
+    length bytes ≤ MOST_INPUT_BYTES → list_all is_ascii bytes ≡ true →
+    document ≡ document_text bytes → lines ≡ script_lines bytes → IsDocument document doc →
+    with_lines no_lines lines ≡ Some s →
     IsFirstFormJob bytes (record { doc = doc; names = s.names; items = s.items })
 job_made bytes document lines doc s short ascii is_document is_script read given =
     record {

@@ -42,7 +42,8 @@ leaves_again : (line : List ℕ) (ls : List Leaf) → HasLeaves line ls → leav
 unfolding leaves_in
 leaves_again line ls has = rw (tokens_again line has.tokens has.lexed, has.spaced) (ap Some has.leaves)
 
-name_read : (ls : List Leaf) (name : List ℕ) → name_at ls ≡ Some name → (ls ≡ word name ∷ drop 1 ls) × (is_client_name name ≡ true)
+name_read : (ls : List Leaf) (name : List ℕ) → name_at ls ≡ Some name →
+    (ls ≡ word name ∷ drop 1 ls) × (is_client_name name ≡ true)
 unfolding name_at
 name_read [] name given = absurd (cc)
 name_read (word t ∷ ls) name given =
@@ -119,7 +120,8 @@ sent_front name rest item is form = rw (name_again name rest is, item_again rest
 given_again : (ls : List Leaf) (sent : List ℕ × Item) → IsSentForm ls sent → given_by ls ≡ Some (Some sent)
 given_again ls sent is = rw (is.front, sent_front sent.0 is.rest sent.1 is.name is.item) refl
 
-given_read : (line : List ℕ) (ls : List Leaf) (given : Option (List ℕ × Item)) → is_comment line ≡ false → HasLeaves line ls →
+given_read : (line : List ℕ) (ls : List Leaf) (given : Option (List ℕ × Item)) → is_comment line ≡ false →
+    HasLeaves line ls →
     given_by ls ≡ Some given → IsLine line given
 given_read line [] given other has is = subst (IsLine line) (some_same None given is) (inr has)
 given_read line (l ∷ ls) given other has is =

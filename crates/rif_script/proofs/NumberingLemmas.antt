@@ -37,15 +37,18 @@ pub place_within : (names : List (List ℕ)) (v : List ℕ) → has_name names v
 place_within [] v has = absurd (cc)
 place_within (n ∷ ns) v has = elim (either (bytes_eq n v)) [
   | inl is ↦ rw is (omega arith)
-  | inr other ↦ let later = place_within ns v (one_of (bytes_eq n v) (has_name ns v) has other) in rw other (omega arith)
+  | inr other ↦ let later =
+      place_within ns v (one_of (bytes_eq n v) (has_name ns v) has other) in rw other (omega arith)
 ]
 
 pub place_at_end : (names : List (List ℕ)) (v : List ℕ) → has_name names v ≡ false → place_of names v ≡ length names
 place_at_end [] v new = refl
-place_at_end (n ∷ ns) v new = let parts = none_of (bytes_eq n v) (has_name ns v) new in rw parts.0 (ap suc (place_at_end ns v parts.1))
+place_at_end (n ∷ ns) v new = let parts =
+    none_of (bytes_eq n v) (has_name ns v) new in rw parts.0 (ap suc (place_at_end ns v parts.1))
 
 -- names behind others change none of their places
-pub place_stays : (names more : List (List ℕ)) (v : List ℕ) → has_name names v ≡ true → place_of (names ++ more) v ≡ place_of names v
+pub place_stays : (names more : List (List ℕ)) (v : List ℕ) → has_name names v ≡ true →
+    place_of (names ++ more) v ≡ place_of names v
 place_stays [] more v has = absurd (cc)
 place_stays (n ∷ ns) more v has = elim (either (bytes_eq n v)) [
   | inl is ↦ rw is refl
@@ -66,9 +69,11 @@ name_at_end (n ∷ ns) v = elim (either (bytes_eq n v)) [
   | inr other ↦ rw other (name_at_end ns v)
 ]
 
-place_new : (names : List (List ℕ)) (v : List ℕ) → has_name names v ≡ false → place_of (names ++ v ∷ []) v ≡ length names
+place_new : (names : List (List ℕ)) (v : List ℕ) → has_name names v ≡ false →
+    place_of (names ++ v ∷ []) v ≡ length names
 place_new [] v new = rw (same_name v) refl
-place_new (n ∷ ns) v new = let parts = none_of (bytes_eq n v) (has_name ns v) new in rw parts.0 (ap suc (place_new ns v parts.1))
+place_new (n ∷ ns) v new = let parts =
+    none_of (bytes_eq n v) (has_name ns v) new in rw parts.0 (ap suc (place_new ns v parts.1))
 
 -- the client of a name has its place among the names with it
 pub has_client : (names : List (List ℕ)) (v : List ℕ) → has_name (names_with names v) v ≡ true
@@ -84,7 +89,8 @@ client_place names v = elim (either (has_name names v)) [
 ]
 
 -- what comes behind some names
-pub names_grow : (names : List (List ℕ)) (sent : List (List ℕ × Item)) → (more : List (List ℕ)) × (names_after names sent ≡ names ++ more)
+pub names_grow : (names : List (List ℕ)) (sent : List (List ℕ × Item)) →
+    (more : List (List ℕ)) × (names_after names sent ≡ names ++ more)
 names_grow names [] = ([], sym (append-nil names))
 names_grow names (one ∷ rest) = elim (either (has_name names one.0)) [
   | inl has ↦
@@ -98,7 +104,8 @@ names_grow names (one ∷ rest) = elim (either (has_name names one.0)) [
 pub more_names : (names : List (List ℕ)) (sent : List (List ℕ × Item)) → length names ≤ length (names_after names sent)
 more_names names sent =
     let later = names_grow names sent in
-    let size : length (names_after names sent) ≡ length names + length later.0 = ap length later.1 ∙ length-append names later.0 in
+    let size : length (names_after names sent) ≡ length names + length later.0 =
+    ap length later.1 ∙ length-append names later.0 in
     omega (arith, size)
 
 -- a name that is known keeps its place
@@ -119,7 +126,8 @@ first_number : (names : List (List ℕ)) (one : List ℕ × Item) (rest : List (
 first_number names one rest =
     sym (place_after (names_with names one.0) rest one.0 (has_client names one.0) ∙ client_place names one.0)
 
-pub numbers_are_final : (names : List (List ℕ)) (sent : List (List ℕ × Item)) → numbered_from names sent ≡ numbered_items (names_after names sent) sent
+pub numbers_are_final : (names : List (List ℕ)) (sent : List (List ℕ × Item)) →
+    numbered_from names sent ≡ numbered_items (names_after names sent) sent
 numbers_are_final names [] = refl
 numbers_are_final names (one ∷ rest) =
     let more = numbers_are_final (names_with names one.0) rest in
@@ -135,7 +143,8 @@ same_bytes : (v n : List ℕ) → bytes_eq v n ≡ true → v ≡ n
 same_bytes v n same = grind (arith, bytes_eq-Decides)
 
 -- a known name is no new one
-known_left_out : (known ns : List (List ℕ)) (v : List ℕ) → has_name known v ≡ true → new_among known (names_without v ns) ≡ new_among known ns
+known_left_out : (known ns : List (List ℕ)) (v : List ℕ) → has_name known v ≡ true →
+    new_among known (names_without v ns) ≡ new_among known ns
 known_left_out known [] v has = refl
 known_left_out known (n ∷ ns) v has = elim (either (bytes_eq v n)) [
   | inl same ↦
@@ -158,7 +167,8 @@ has_last (k ∷ known) v n = elim (either (bytes_eq k n)) [
 ]
 
 -- behind a new name, it is no new one any more
-new_left_out : (known ns : List (List ℕ)) (v : List ℕ) → new_among (known ++ v ∷ []) ns ≡ new_among known (names_without v ns)
+new_left_out : (known ns : List (List ℕ)) (v : List ℕ) →
+    new_among (known ++ v ∷ []) ns ≡ new_among known (names_without v ns)
 new_left_out known [] v = refl
 new_left_out known (n ∷ ns) v = elim (either (bytes_eq v n)) [
   | inl same ↦ elim (either (has_name known n)) [
@@ -171,7 +181,8 @@ new_left_out known (n ∷ ns) v = elim (either (bytes_eq v n)) [
   ]
 ]
 
-known_and_new : (known : List (List ℕ)) (sent : List (List ℕ × Item)) → names_after known sent ≡ known ++ new_among known (names_of sent)
+known_and_new : (known : List (List ℕ)) (sent : List (List ℕ × Item)) →
+    names_after known sent ≡ known ++ new_among known (names_of sent)
 known_and_new known [] = sym (append-nil known)
 known_and_new known (one ∷ rest) = elim (either (has_name known one.0)) [
   | inl has ↦
@@ -200,7 +211,8 @@ clients_by names (one ∷ rest) most few =
     let grow = more_names (names_with names one.0) rest in
     (omega arith, clients_by (names_with names one.0) rest most few)
 
-pub all_of_clients : (sent : List (List ℕ × Item)) → All (λ (one : ℕ × Item). one.0 < length (names_of sent)) (numbered_items (names_of sent) sent)
+pub all_of_clients : (sent : List (List ℕ × Item)) →
+    All (λ (one : ℕ × Item). one.0 < length (names_of sent)) (numbered_items (names_of sent) sent)
 all_of_clients sent =
     let most = length (names_after [] sent) in
     subst (λ (ns : List (List ℕ)). All (λ (one : ℕ × Item). one.0 < length ns) (numbered_items ns sent)) (names_are_first sent)

@@ -35,7 +35,8 @@ script_after s [] = s
 script_after s (one ∷ rest) = script_after (next_script s one) rest
 
 -- what is known of a client's number tells whether its name is new
-names_by_place : (names : List (List ℕ)) (v : List ℕ) → cond (place_of names v == length names) (names ++ v ∷ []) names ≡ names_with names v
+names_by_place : (names : List (List ℕ)) (v : List ℕ) →
+    cond (place_of names v == length names) (names ++ v ∷ []) names ≡ names_with names v
 names_by_place names v = elim (either (has_name names v)) [
   | inl has ↦
       let low = place_within names v has in
@@ -62,13 +63,15 @@ client_read names v found given =
     let low : place_of names v < MOST_CLIENTS = grind (arith, nat_tests) in
     (low, ap (λ (ns : List (List ℕ)). (place_of names v, ns)) (sym (names_by_place names v)) ∙ parts.1)
 
-client_again : (names : List (List ℕ)) (v : List ℕ) → place_of names v < MOST_CLIENTS → client_with names v ≡ Some (place_of names v, names_with names v)
+client_again : (names : List (List ℕ)) (v : List ℕ) → place_of names v < MOST_CLIENTS →
+    client_with names v ≡ Some (place_of names v, names_with names v)
 unfolding client_with
 client_again names v low =
     let test : nat_lt (place_of names v) MOST_CLIENTS ≡ true = grind (arith, nat_tests) in
     rw test (ap (λ (ns : List (List ℕ)). Some (place_of names v, ns)) (names_by_place names v))
 
-budgets_read : (before more sum : ℕ) → budgets_with before more ≡ Some sum → (before + more ≤ MOST_BUDGETS) × (before + more ≡ sum)
+budgets_read : (before more sum : ℕ) → budgets_with before more ≡ Some sum →
+    (before + more ≤ MOST_BUDGETS) × (before + more ≡ sum)
 unfolding budgets_with
 budgets_read before more sum given =
     let parts = cond_some (nat_le (before + more) MOST_BUDGETS) _ sum given in
@@ -78,9 +81,11 @@ budgets_read before more sum given =
 
 budgets_again : (before more : ℕ) → before + more ≤ MOST_BUDGETS → budgets_with before more ≡ Some (before + more)
 unfolding budgets_with
-budgets_again before more low = let test : nat_le (before + more) MOST_BUDGETS ≡ true = grind (arith, nat_tests) in rw test refl
+budgets_again before more low = let test : nat_le (before + more) MOST_BUDGETS ≡ true =
+    grind (arith, nat_tests) in rw test refl
 
-items_read : (items : List (ℕ × Item)) (client : ℕ) (item : Item) (all : List (ℕ × Item)) → items_with items client item ≡ Some all →
+items_read : (items : List (ℕ × Item)) (client : ℕ) (item : Item) (all : List (ℕ × Item)) →
+    items_with items client item ≡ Some all →
     (length items < MOST_ITEMS) × (items ++ (client, item) ∷ [] ≡ all)
 unfolding items_with
 items_read items client item all given =
@@ -89,14 +94,17 @@ items_read items client item all given =
     let low : length items < MOST_ITEMS = grind (arith, nat_tests) in
     (low, parts.1)
 
-items_again : (items : List (ℕ × Item)) (client : ℕ) (item : Item) → length items < MOST_ITEMS → items_with items client item ≡ Some (items ++ (client, item) ∷ [])
+items_again : (items : List (ℕ × Item)) (client : ℕ) (item : Item) → length items < MOST_ITEMS →
+    items_with items client item ≡ Some (items ++ (client, item) ∷ [])
 unfolding items_with
-items_again items client item low = let test : nat_lt (length items) MOST_ITEMS ≡ true = grind (arith, nat_tests) in rw test refl
+items_again items client item low = let test : nat_lt (length items) MOST_ITEMS ≡ true =
+    grind (arith, nat_tests) in rw test refl
 
 some_same : {A : Type 0} (a b : A) → Some a ≡ Some b → a ≡ b
 some_same a b same = cc
 
-sent_read : (s : Script) (one : List ℕ × Item) (next : Script) → with_sent s one.0 one.1 ≡ Some next → HasRoom s one × (next_script s one ≡ next)
+sent_read : (s : Script) (one : List ℕ × Item) (next : Script) → with_sent s one.0 one.1 ≡ Some next →
+    HasRoom s one × (next_script s one ≡ next)
 unfolding with_sent
 sent_read s one next given =
     let client = bind_some (client_with s.names one.0) _ next given in
@@ -110,8 +118,18 @@ sent_read s one next given =
     let all : s.items ++ (place_of s.names one.0, one.1) ∷ [] ≡ items.0 =
     ap (λ (k : ℕ). s.items ++ (k, one.1) ∷ []) place ∙ i.1 in
     let same : next_script s one ≡ record { names = client.0.1; items = items.0; budgets = budgets.0 } =
-    ap (λ (ns : List (List ℕ)). record { names = ns; items = s.items ++ (place_of s.names one.0, one.1) ∷ []; budgets = s.budgets + budget_of one.1 }) names
-    ∙ (ap (λ (is : List (ℕ × Item)). record { names = client.0.1; items = is; budgets = s.budgets + budget_of one.1 }) all
+    ap (λ (ns : List (List ℕ)). record {
+      names = ns;
+      items = s.items ++ (place_of s.names one.0, one.1) ∷ [];
+      budgets =
+          s.budgets + budget_of one.1;
+    }) names
+    ∙ (ap (λ (is : List (ℕ × Item)). record {
+      names = client.0.1;
+      items = is;
+      budgets =
+          s.budgets + budget_of one.1;
+    }) all
     ∙ ap (λ (n : ℕ). record { names = client.0.1; items = items.0; budgets = n }) b.1) in
     (record { client = c.0; items = i.0; budgets = b.0 }, same ∙ some_same _ next items.2)
 
@@ -146,8 +164,10 @@ record IsScriptAfter (s : Script) (lines : List (List ℕ)) (end : Script) : Typ
   after : script_after s (sent_by given) ≡ end
   small : IsSmall end
 
-with_read : (s : Script) (line : List ℕ) (lines : List (List ℕ)) (given : Option (List ℕ × Item)) (next end : Script) → IsLine line given →
-    with_given s given ≡ Some next → (IsSmall next → IsScriptAfter next lines end) → IsSmall s → IsScriptAfter s (line ∷ lines) end
+with_read : (s : Script) (line : List ℕ) (lines : List (List ℕ)) (given : Option (List ℕ × Item)) (next end : Script) →
+    IsLine line given →
+    with_given s given ≡ Some next → (IsSmall next → IsScriptAfter next lines end) → IsSmall s →
+    IsScriptAfter s (line ∷ lines) end
 with_read s line lines None next end is here more small =
     let same = some_same s next here in
     let rest = more (subst IsSmall same small) in
@@ -167,10 +187,17 @@ with_read s line lines (Some one) next end is here more small =
       small = rest.small;
     }
 
-lines_read : (s : Script) (lines : List (List ℕ)) (end : Script) → IsSmall s → with_lines s lines ≡ Some end → IsScriptAfter s lines end
+lines_read : (s : Script) (lines : List (List ℕ)) (end : Script) → IsSmall s → with_lines s lines ≡ Some end →
+    IsScriptAfter s lines end
 unfolding with_line
 lines_read s [] end small given =
-    let same = some_same s end given in record { given = []; lines_are = tt; after = same; small = subst IsSmall same small }
+    let same = some_same s end given in record {
+      given = [];
+      lines_are = tt;
+      after = same;
+      small =
+          subst IsSmall same small;
+    }
 lines_read s (line ∷ lines) end small given =
     let next = bind_some (with_line s line) _ end given in
     let one = bind_some (line_at line) _ next.0 next.1 in
@@ -209,7 +236,8 @@ client_below names v = elim (either (has_name names v)) [
 ]
 
 -- where the script is within the limits in the end, there was room for each item
-room_before : (s : Script) (one : List ℕ × Item) (rest : List (List ℕ × Item)) → IsSmall (script_after s (one ∷ rest)) → HasRoom s one
+room_before : (s : Script) (one : List ℕ × Item) (rest : List (List ℕ × Item)) → IsSmall (script_after s (one ∷ rest)) →
+    HasRoom s one
 room_before s one rest small =
     let more = grows_after (next_script s one) rest in
     let a = more.names in
@@ -220,7 +248,12 @@ room_before s one rest small =
     let most_budgets = small.budgets in
     let size = length-append s.items ((place_of s.names one.0, one.1) ∷ []) in
     let place = client_below s.names one.0 in
-    record { client = omega (arith, a, most, place); items = omega (arith, b, most_items, size); budgets = omega (arith, c, most_budgets) }
+    record {
+      client = omega (arith, a, most, place);
+      items = omega (arith, b, most_items, size);
+      budgets =
+          omega (arith, c, most_budgets);
+    }
 
 lines_again : (s : Script) (lines : List (List ℕ)) (given : List (Option (List ℕ × Item))) → AreLines lines given →
     IsSmall (script_after s (sent_by given)) → with_lines s lines ≡ Some (script_after s (sent_by given))
@@ -228,7 +261,8 @@ unfolding with_line
 lines_again s [] [] are small = refl
 lines_again s [] (one ∷ given) are small = absurd are
 lines_again s (line ∷ lines) [] are small = absurd are
-lines_again s (line ∷ lines) (None ∷ given) are small = rw (line_again line None are.0) (lines_again s lines given are.1 small)
+lines_again s (line ∷ lines) (None ∷ given) are small =
+    rw (line_again line None are.0) (lines_again s lines given are.1 small)
 lines_again s (line ∷ lines) (Some one ∷ given) are small =
     rw (line_again line (Some one) are.0, sent_again s one (room_before s one (sent_by given) small))
     (lines_again (next_script s one) lines given are.1 small)
@@ -238,7 +272,8 @@ names_are : (s : Script) (sent : List (List ℕ × Item)) → (script_after s se
 names_are s [] = refl
 names_are s (one ∷ rest) = names_are (next_script s one) rest
 
-items_are : (s : Script) (sent : List (List ℕ × Item)) → (script_after s sent).items ≡ s.items ++ numbered_from s.names sent
+items_are : (s : Script) (sent : List (List ℕ × Item)) →
+    (script_after s sent).items ≡ s.items ++ numbered_from s.names sent
 items_are s [] = sym (append-nil s.items)
 items_are s (one ∷ rest) =
     items_are (next_script s one) rest
@@ -260,13 +295,16 @@ final_items sent =
     ∙ (numbers_are_final [] sent ∙ ap (λ (ns : List (List ℕ)). numbered_items ns sent) (names_are_first sent))
 
 -- what is read of lines is their script
-pub script_read : (lines : List (List ℕ)) (s : Script) → with_lines no_lines lines ≡ Some s → IsScript lines s.names s.items
+pub script_read : (lines : List (List ℕ)) (s : Script) → with_lines no_lines lines ≡ Some s →
+    IsScript lines s.names s.items
 script_read lines s given =
     let all = lines_read no_lines lines s no_lines_small given in
     let sent = sent_by all.given in
     let names : s.names ≡ names_of sent = ap (λ (x : Script). x.names) (sym all.after) ∙ final_names sent in
-    let items : s.items ≡ numbered_items (names_of sent) sent = ap (λ (x : Script). x.items) (sym all.after) ∙ final_items sent in
-    let budgets : s.budgets ≡ 0 + budget_sum sent = ap (λ (x : Script). x.budgets) (sym all.after) ∙ budgets_are no_lines sent in
+    let items : s.items ≡ numbered_items (names_of sent) sent =
+    ap (λ (x : Script). x.items) (sym all.after) ∙ final_items sent in
+    let budgets : s.budgets ≡ 0 + budget_sum sent =
+    ap (λ (x : Script). x.budgets) (sym all.after) ∙ budgets_are no_lines sent in
     let few = all.small.budgets in
     record {
       given = all.given;
@@ -279,13 +317,15 @@ script_read lines s given =
     }
 
 -- what is a script of lines is read
-pub script_again : (lines : List (List ℕ)) (names : List (List ℕ)) (items : List (ℕ × Item)) → IsScript lines names items →
+pub script_again : (lines : List (List ℕ)) (names : List (List ℕ)) (items : List (ℕ × Item)) →
+    IsScript lines names items →
     (s : Script) × (with_lines no_lines lines ≡ Some s) × (s.names ≡ names) × (s.items ≡ items)
 script_again lines names items is =
     let sent = sent_by is.given in
     let end = script_after no_lines sent in
     let same : end.names ≡ names = final_names sent ∙ sym is.clients in
-    let all : end.items ≡ items = final_items sent ∙ (ap (λ (ns : List (List ℕ)). numbered_items ns sent) (sym is.clients) ∙ sym is.sent) in
+    let all : end.items ≡ items =
+    final_items sent ∙ (ap (λ (ns : List (List ℕ)). numbered_items ns sent) (sym is.clients) ∙ sym is.sent) in
     let budgets = budgets_are no_lines sent in
     let few = is.few_budgets in
     let small : IsSmall end = record {

@@ -6,12 +6,14 @@ use Rattle.rif_script.specs.Jobs.{document_text, is_separator, joined_before, li
 use Rattle.rif_script.specs.ReadingLines.{line_length}
 
 -- a text's lines from its first byte on, where the first line isn't that byte alone
-longer_line : (b : ℕ) (bs : List ℕ) → (bs ≢ [] → lines_of bs ≡ take (line_length bs) bs ∷ lines_of (drop (line_length bs) bs)) →
+longer_line : (b : ℕ) (bs : List ℕ) →
+    (bs ≢ [] → lines_of bs ≡ take (line_length bs) bs ∷ lines_of (drop (line_length bs) bs)) →
     with_byte b (lines_of bs) ≡ (b ∷ take (line_length bs) bs) ∷ lines_of (drop (line_length bs) bs)
 longer_line b [] more = refl
 longer_line b (c ∷ cs) more = ap (with_byte b) (more (λ none. cc))
 
-pub first_of_lines : (text : List ℕ) → text ≢ [] → lines_of text ≡ take (line_length text) text ∷ lines_of (drop (line_length text) text)
+pub first_of_lines : (text : List ℕ) → text ≢ [] →
+    lines_of text ≡ take (line_length text) text ∷ lines_of (drop (line_length text) text)
 first_of_lines [] some_ = absurd (some_ refl)
 first_of_lines (b ∷ bs) some_ =
     elim (b == 10) as (λ (is : Bool). cond is ((b ∷ []) ∷ lines_of bs) (with_byte b (lines_of bs))
@@ -48,7 +50,8 @@ pub script_goes_on : (text : List ℕ) → text ≢ [] → is_separator (take (l
 script_goes_on text some_ other = rw (first_of_lines text some_, other) refl
 
 -- where it is, the document ends, and the script is all behind it
-pub document_ends : (text : List ℕ) → text ≢ [] → is_separator (take (line_length text) text) ≡ true → document_text text ≡ []
+pub document_ends : (text : List ℕ) → text ≢ [] → is_separator (take (line_length text) text) ≡ true →
+    document_text text ≡ []
 document_ends text some_ here = rw (first_of_lines text some_, here) refl
 
 pub script_begins : (text : List ℕ) → text ≢ [] → is_separator (take (line_length text) text) ≡ true →
@@ -80,19 +83,23 @@ script_so_far at n text is some_ other before =
     subst (λ (m : ℕ). script_lines text ≡ script_lines (drop (at + m) text)) (sym is) all
 
 pub some_left : (at : ℕ) (text : List ℕ) → at < length text → drop at text ≢ []
-some_left at text low none = let size = length-drop at text in let zero_ : length (drop at text) ≡ 0 = ap length none in omega (arith, size, zero_)
+some_left at text low none = let size = length-drop at text in let zero_ : length (drop at text) ≡ 0 =
+    ap length none in omega (arith, size, zero_)
 
 pub line_fits : (at n : ℕ) (text : List ℕ) → at < length text → n ≡ line_length (drop at text) → at + n ≤ length text
-line_fits at n text low is = let size = length-drop at text in let within = line_within (drop at text) in omega (arith, size, within, is)
+line_fits at n text low is = let size = length-drop at text in let within =
+    line_within (drop at text) in omega (arith, size, within, is)
 
 -- what is left of a text, as a slice of it
 pub rest_of : (at : ℕ) (text : List ℕ) → take (length text - at) (drop at text) ≡ drop at text
 rest_of at text = take_all (length text - at) (drop at text) (omega (arith, length-drop at text))
 
-pub line_of : (at : ℕ) (text line : List ℕ) → line ≡ take (line_length (take (length text - at) (drop at text))) (take (length text - at) (drop at text)) →
+pub line_of : (at : ℕ) (text line : List ℕ) →
+    line ≡ take (line_length (take (length text - at) (drop at text))) (take (length text - at) (drop at text)) →
     line ≡ take (line_length (drop at text)) (drop at text)
 line_of at text line is = subst (λ (xs : List ℕ). line ≡ take (line_length xs) xs) (rest_of at text) is
 
-pub behind_of : (at : ℕ) (text behind : List ℕ) → behind ≡ drop (line_length (take (length text - at) (drop at text))) (take (length text - at) (drop at text)) →
+pub behind_of : (at : ℕ) (text behind : List ℕ) →
+    behind ≡ drop (line_length (take (length text - at) (drop at text))) (take (length text - at) (drop at text)) →
     behind ≡ drop (line_length (drop at text)) (drop at text)
 behind_of at text behind is = subst (λ (xs : List ℕ). behind ≡ drop (line_length xs) xs) (rest_of at text) is

@@ -116,7 +116,8 @@ sent_by (Some sent ∷ more) = sent ∷ sent_by more
 -- names without one
 abbrev pub names_without : List ℕ → List (List ℕ) → List (List ℕ)
 names_without name [] = []
-names_without name (other ∷ names) = if bytes_eq name other then names_without name names else other ∷ names_without name names
+names_without name (other ∷ names) =
+    if bytes_eq name other then names_without name names else other ∷ names_without name names
 
 -- the clients' names, each once, in the order of their first lines
 abbrev pub names_of : List (List ℕ × Item) → List (List ℕ)
