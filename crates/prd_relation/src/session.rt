@@ -115,9 +115,9 @@ impl PlainSession {
                 Some(_) => Ok(self.stop(Act::StoppedLimit)),
                 None => Ok(self.stop(Act::StoppedQuiet)),
             },
-            State::UntilHalt(left) => match choose_plain(alloc, doc, &self.history)? {
-                Some(instance) if left > 0 => {
-                    self.fire(alloc, doc, instance, State::UntilHalt(left - 1))
+            State::UntilHalt(budget) => match choose_plain(alloc, doc, &self.history)? {
+                Some(instance) if budget > 0 => {
+                    self.fire(alloc, doc, instance, State::UntilHalt(budget - 1))
                 }
                 Some(_) => Ok(self.stop(Act::StoppedLimit)),
                 None => Ok(unfired(Act::Resting)),

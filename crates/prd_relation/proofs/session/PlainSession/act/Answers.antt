@@ -21,6 +21,6 @@ returns-in-Some-3-clause-shows c = λ s shown.
     ap (chosen_instance c.args.doc.now) (sym shown.moments) ∙ sym c.in_ok-instance-in-UntilHalt.ensures
     ∙ c.in-Some-3.is in
     subst (λ (o : Outcome). OnOk c.fire-in-Some-3.result (Shows c.args.doc.now c.fire-in-Some-3.new.self o.session))
-    (sym (outcome_until c.args.doc.now s c.in-UntilHalt.left c.in-Some-3.instance _ _ (sym shown.state
-    ∙ c.in-UntilHalt.is) chosen c.if-left-gt0-2.true))
+    (sym (outcome_until c.args.doc.now s c.in-UntilHalt.budget c.in-Some-3.instance _ _ (sym shown.state
+    ∙ c.in-UntilHalt.is) chosen c.if-budget-gt0.true))
     (c.fire-in-Some-3.ensures.shows s shown)
