@@ -9,14 +9,14 @@ use Rattle.std.specs.declared.cmp.Ordering.{Ordering}
 use Rattle.std.specs.declared.cmp.Ordering.TheVariants.{Less, Equal, Greater}
 use Rattle.std.specs.Ordering.{eq_by_cmp, int_cmp, is_lt}
 use Rattle.rif_terms.proofs.OrderLemmas.{total_instances, exact_instances}
-use Rattle.rif_terms.proofs.SetsMembers.{has_filter, equal_itself}
+use Rattle.rif_terms.proofs.SetsMembers.{has_filter, equal_is, equal_itself}
 use Rattle.rif_terms.specs.declared.instance.Instance.{Instance}
 use Rattle.rif_terms.specs.InstanceOrder.{instance_cmp}
 use Rattle.rif_terms.specs.Sets.{has}
 use Rattle.prd_relation.specs.Choice.{best_by, priority_of, is_lower, is_older, highest_instances, youngest_instances}
 use Rattle.prd_relation.specs.Choice.{unrefracted_instances, allowed_instances}
 use Rattle.prd_relation.specs.History.{newest_conflict_set, age_of, is_refracted}
-use Rattle.prd_relation.specs.Laws.{ChoosesUnrefracted, ChoosesWhereItCan}
+use Rattle.prd_relation.specs.Laws.{ChoosesBest, ChoosesUnrefracted, ChoosesWhereItCan}
 
 has_first : (xs : List Instance) (i : Instance) → slice_get xs 0 ≡ Some i → has instance_cmp xs i ≡ true
 has_first [] i at = absurd (cc at)
@@ -50,6 +50,34 @@ chosen_unrefracted doc ms i chosen =
     let high = kept (λ x. not (list_any (is_lower doc x) eager)) eager i young.1 in
     let free = kept (λ x. not (is_refracted ms x)) (newest_conflict_set ms) i high.1 in
     (free.1, negated (is_refracted ms i) free.0)
+
+neither : (a b : Bool) → (a || b) ≡ false → (a ≡ false) × (b ≡ false)
+neither true b h = absurd (cc h)
+neither false b h = (refl, h)
+
+-- a test that no element passes
+none_passes : (p : Instance → Bool) (xs : List Instance) (j : Instance) → list_any p xs ≡ false
+    → has instance_cmp xs j ≡ true → p j ≡ false
+none_passes p [] j none there = absurd (cc there)
+none_passes p (x ∷ xs) j none there =
+    let parts = neither (p x) (list_any p xs) none in
+    by_first (eq_by_cmp instance_cmp j x) refl parts.0 (λ rest. none_passes p xs j parts.1 rest)
+  where
+    by_first : (b : Bool) → eq_by_cmp instance_cmp j x ≡ b → p x ≡ false
+        → (has instance_cmp xs j ≡ true → p j ≡ false) → p j ≡ false
+    by_first true is here later = ap p (equal_is total_instances exact_instances j x is) ∙ here
+    by_first false is here later = later (sym (ap (λ b. b || has instance_cmp xs j) is) ∙ there)
+
+pub chosen_best : ChoosesBest
+chosen_best doc ms i j chosen =
+    let eager = unrefracted_instances ms (newest_conflict_set ms) in
+    let highest = highest_instances doc eager in
+    let young = kept (λ x. not (list_any (is_older ms x) highest)) highest i
+    (has_first (allowed_instances doc ms) i chosen) in
+    let high = kept (λ x. not (list_any (is_lower doc x) eager)) eager i young.1 in (
+      none_passes (is_lower doc i) eager j (negated (list_any (is_lower doc i) eager) high.0),
+      none_passes (is_older ms i) highest j (negated (list_any (is_older ms i) highest) young.0),
+    )
 
 -- ---- where something is left to choose from, something is chosen
 

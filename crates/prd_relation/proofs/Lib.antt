@@ -9,5 +9,6 @@ pub mod ListingLemmas
 pub mod MatchingLemmas
 pub mod PlainLemmas
 pub mod ReplayLemmas
+pub mod RunLawLemmas
 pub mod ThroughLemmas
 pub mod TurnLemmas

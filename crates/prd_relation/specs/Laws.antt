@@ -1,15 +1,19 @@
 -- What the words of histories and of the choice promise: the statements of the laws in src/laws.rt.
 -- Source: RIF-PRD, "Operational semantics of a production rule system" and "Conflict resolution".
-use Rattle.std.specs.Prelude.{◌≡◌, ◌↔◌, ℕ, true, false, List, [], Some, None}
+use Rattle.std.specs.Prelude.{◌≡◌, ◌↔◌, ℕ, Bool, true, false, List, [], ◌∷◌, Some, None}
 use Rattle.rif_terms.specs.declared.fact.Fact.{Fact}
 use Rattle.rif_terms.specs.declared.instance.Instance.{Instance}
 use Rattle.rif_terms.specs.declared.rule.Doc.{Doc}
 use Rattle.rif_terms.specs.InstanceOrder.{instance_cmp}
 use Rattle.rif_terms.specs.Sets.{has, IsSet}
 use Rattle.prd_relation.specs.declared.moment.Moment.{Moment}
-use Rattle.prd_relation.specs.Choice.{unrefracted_instances, chosen_instance}
+use Rattle.session_states.specs.declared.item.Entry.{Entry}
+use Rattle.session_states.specs.declared.turn.Act.TheVariants.{Fired}
+use Rattle.prd_relation.specs.Choice.{chosen_instance, highest_instances, is_lower, is_older, unrefracted_instances}
 use Rattle.prd_relation.specs.ConflictSet.{conflict_set}
 use Rattle.prd_relation.specs.History.{newest_conflict_set, age_of, is_refracted, IsAge, IsRefracted}
+use Rattle.prd_relation.specs.Runs.{AreLawfulFrom, is_disposing}
+use Rattle.prd_relation.specs.Turns.{Session, session_after, session_with, turn_of}
 
 -- a conflict set is in order without repeats
 abbrev pub AreConflictSetsSets : Type 0
@@ -37,3 +41,21 @@ ChoosesUnrefracted = (doc : Doc) (moments : List Moment) (i : Instance) → chos
 abbrev pub ChoosesWhereItCan : Type 0
 ChoosesWhereItCan = (doc : Doc) (moments : List Moment)
     → (chosen_instance doc moments ≡ None) ↔ (unrefracted_instances moments (newest_conflict_set moments) ≡ [])
+
+-- no unrefracted instance has a rule of higher priority than what is chosen, and none of the highest is younger
+abbrev pub ChoosesBest : Type 0
+ChoosesBest = (doc : Doc) (moments : List Moment) (i j : Instance) → chosen_instance doc moments ≡ Some i
+    → let unrefracted = unrefracted_instances moments (newest_conflict_set moments) in
+    (has instance_cmp unrefracted j ≡ true → is_lower doc i j ≡ false)
+    × (has instance_cmp (highest_instances doc unrefracted) j ≡ true → is_older moments i j ≡ false)
+
+-- each firing leads to one more state of facts, which its pick led to: a void one too, and one that changes nothing
+abbrev pub AreFiringsStates : Type 0
+AreFiringsStates = (doc : Doc) (session : Session) (batch : List Entry) → (turn_of doc session batch).act ≡ Some Fired
+    → (facts : List Fact) × (i : Instance) × ((session_after doc session batch).history
+    ≡ record { facts = facts; pick = Some i } ∷ (session_with session batch).history)
+
+-- no batch of a run follows one that ends in a Dispose
+abbrev pub DisposesEnd : Type 0
+DisposesEnd = (doc : Doc) (session : Session) (fired disposed : Bool) (batch : List Entry) (batches : List (List Entry))
+    → AreLawfulFrom doc session fired disposed (batch ∷ batches) → is_disposing batch ≡ true → batches ≡ []

@@ -2,7 +2,7 @@
 //! empty body, and its statement stands in specs/Laws.antt.
 //!
 //! Source: RIF-PRD, "Operational semantics of a production rule system" and "Conflict resolution".
-ghost use Rattle.prd_relation.specs.Laws.{AreConflictSetsSets, AreAgesSaid, IsRefractionSaid, AreOthersUnaged, ChoosesUnrefracted, ChoosesWhereItCan};
+ghost use Rattle.prd_relation.specs.Laws.{AreConflictSetsSets, AreAgesSaid, IsRefractionSaid, AreOthersUnaged, ChoosesUnrefracted, ChoosesBest, ChoosesWhereItCan, AreFiringsStates, DisposesEnd};
 
 /// Law: a conflict set has its instances in order, each once.
 #[tactic(auto, using(crate::proofs::ConflictSetLemmas::conflict_set_is_set))]
@@ -33,4 +33,20 @@ pub fn the_chosen_is_unrefracted()
 /// Law: nothing is chosen exactly where each instance of the newest conflict set is refracted.
 pub fn something_is_chosen_where_it_can_be()
     ensures { ChoosesWhereItCan }
+{}
+
+/// Law: no unrefracted instance has a rule of higher priority than the one that is chosen, and none of
+/// the highest is younger.
+pub fn the_chosen_is_a_best_one()
+    ensures { ChoosesBest }
+{}
+
+/// Law: each firing leads to one more state, a void one too, and one that changes nothing.
+pub fn firings_are_states()
+    ensures { AreFiringsStates }
+{}
+
+/// Law: no batch of a run follows one that ends in a Dispose.
+pub fn a_dispose_ends_the_run()
+    ensures { DisposesEnd }
 {}
