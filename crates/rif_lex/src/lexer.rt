@@ -12,7 +12,8 @@ use std::alloc::Global;
 /// All tokens of the bytes, in order and to their end, or the first of three refusals that stands.
 ///
 /// It goes over the bytes once to see that they are UTF-8, once to see whether all are ASCII, and once
-/// for the tokens; it copies nothing, and takes memory for the tokens alone.
+/// for the tokens; it copies nothing, and takes memory for the tokens alone: at first room for half as
+/// many as there are bytes, and more than dense rules have.
 ///
 /// Source: our own (docs/FORMATS.md, "Tokens").
 #[tactic(auto, using(crate::proofs::LexingLemmas::lexed_text, crate::proofs::LexingLemmas::lexed_broken))]
@@ -26,7 +27,7 @@ pub fn tokens(alloc: Global, bytes: &[u8]) -> Result<Tokens, Fault>
         let at = broken.valid_up_to() as u64;
         return Err(Fault::Refused(Refusal::NotUtf8 { at }));
     }
-    let mut found = Vec::new(alloc);
+    let mut found = Vec::with_capacity(alloc, bytes.len() / 2)?;
     push_tokens(&mut found, bytes)?;
     Ok(Tokens::from_vec(found))
 }
