@@ -14,20 +14,22 @@ fn texts(alloc: Global, words: &[&str]) -> Result<Vec<Text>, OutOfMemory> {
 }
 
 const DISCOUNT: &[u8] =
-    b"Document(Group(Forall ?c (If ?c # _Customer Then Do(Assert(?c[_discount->5])))))
+    b"Document(Group(Forall ?c (If And(?c # _Customer ?c[_status->\"Silver\"]) Then Do(Assert(?c[_discount->5])))))
 %%
 a assert _c1 # _Customer
+a assert _c1[_status->\"Silver\"]
 a fire 10
 ";
 
 const RUN_OF_DISCOUNT: &[u8] = b"turn 1
 in a assert _c1 # _Customer
+in a assert _c1[_status->\"Silver\"]
 in a fire 10
 fired 1 ?c=_c1
 + _c1[_discount->5]
 turn 2
 quiet
-end turns 2 firings 1 facts 2
+end turns 2 firings 1 facts 3
 ";
 
 fn discount(alloc: Global) -> Result<Vec<u8>, AllocError> {
