@@ -1,95 +1,70 @@
-ghost use Rattle.std.specs.Prelude.{IfErr, IfOk};
-ghost use Rattle.prd_reader.specs.FirstForm.{IsFirstForm, RefusesFirstForm};
-ghost use Rattle.prd_reader.specs.Reading.{Gives, seen, with_seen};
-ghost use Rattle.prd_reader.specs.RuleReading.{document_at, group_at, in_group, members_at, rules_at};
+ghost use Rattle.std.specs.Prelude.{◌≡◌, IfErr, IfOk, Ok};
+ghost use Rattle.rif_lex.specs.Lexing.{lexed};
+ghost use Rattle.prd_reader.specs.Documents.{IsDocumentOf, IsRead, RefusesDocument, column_of, line_of};
+ghost use Rattle.prd_reader.specs.Limits.{KeepsLimits, KeepsPlaces};
 
-use crate::leaves::Leaves;
-use crate::refusing::left_out;
-use crate::rule::read_rule;
-use crate::spacing::{are_ascii, are_spaced};
-use rif_lex::{Kind, Tokens};
-use rif_terms::{Doc, Fault, Rule};
-use sqlite_items::Items;
+use crate::building::build;
+use crate::document_leaves::leaves;
+use crate::prefixes::Prefixes;
+use crate::recognizing::{Outcome, recognize};
+use crate::refusing::refusal_at;
+use rif_lex::{Token, Tokens, end_of};
+use rif_terms::{Doc, Fault};
 use std::alloc::Global;
 
-/// The document that the tokens of these bytes stand for, all of them. A document that isn't of the first
-/// form is refused as left out, at line 1, column 1. The cost is the bytes' length.
+/// The document that the tokens of these bytes stand for, or the refusal that decides: 4 to 13, each
+/// exactly at its place. The condition is that the tokens are those of the bytes.
 ///
-/// Source: our own (docs/FORMATS.md, "The first form").
+/// The cost is linear in the bytes; it recurses as deep as brackets are open, which is 64 at most.
+///
+/// Source: our own (docs/FORMATS.md, "Grammar" and "Refusals").
 pub fn read_doc(alloc: Global, tokens: &Tokens, bytes: &[u8]) -> Result<Doc, Fault>
-    ensures read { IfOk result (IsFirstForm tokens.now bytes.now) }
-    ensures refused { IfErr result (RefusesFirstForm tokens.now bytes.now) }
+    requires { lexed bytes.now ≡ Ok tokens.now }
+    ensures read { IfOk result (IsDocumentOf tokens.now bytes.now) }
+    ensures limits { IfOk result KeepsLimits }
+    ensures places { IfOk result KeepsPlaces }
+    ensures refused { IfErr result (RefusesDocument tokens.now bytes.now) }
 {
-    let tokens = tokens.as_slice();
-    if !are_ascii(bytes) {
-        return Err(left_out());
-    }
-    if !are_spaced(tokens, bytes) {
-        return Err(left_out());
-    }
-    read_all(alloc, Leaves::new(tokens, bytes))
+    let (doc, _) = read_parts(alloc, tokens, bytes)?;
+    Ok(doc)
 }
 
-// The document that the leaves are, all of them.
-#[tactic(auto, unfolding(crate::specs::RuleReading::rules_at))]
-fn read_all(alloc: Global, at: Leaves<'_>) -> Result<Doc, Fault>
-    ensures { Gives (λ doc. doc.rules) result (rules_at (seen at.entry)) }
+/// The same, with the prefixes that the document declares, in the order in which their names were first
+/// declared.
+///
+/// Source: our own (docs/FORMATS.md, "Grammar", "Names" and "Refusals").
+pub fn read_parts(alloc: Global, tokens: &Tokens, bytes: &[u8]) -> Result<(Doc, Prefixes), Fault>
+    requires { lexed bytes.now ≡ Ok tokens.now }
+    ensures read { IfOk result (λ parts. IsRead tokens.now bytes.now parts.0 parts.1) }
+    ensures limits { IfOk result (λ parts. KeepsLimits parts.0) }
+    ensures places { IfOk result (λ parts. KeepsPlaces parts.0) }
+    ensures refused { IfErr result (RefusesDocument tokens.now bytes.now) }
 {
-    let (rules, rest) = read_document(alloc, at)?;
-    if !rest.is_empty() {
-        return Err(left_out());
-    }
-    Ok(Doc { rules })
-}
-
-// The rules of the document at the front.
-#[tactic(auto, unfolding(crate::specs::RuleReading::document_at))]
-fn read_document<'a>(alloc: Global, at: Leaves<'a>) -> Result<(Items<Rule>, Leaves<'a>), Fault>
-    ensures { Gives with_seen result (document_at (seen at.entry)) }
-{
-    let at = at.past_word(b"Document")?;
-    let at = at.past(Kind::Open)?;
-    let (rules, at) = read_group(alloc, at)?;
-    let at = at.past(Kind::Close)?;
-    Ok((rules, at))
-}
-
-// The rules of the group at the front, and none where there is no group.
-#[tactic(auto, unfolding(crate::specs::RuleReading::group_at))]
-fn read_group<'a>(alloc: Global, at: Leaves<'a>) -> Result<(Items<Rule>, Leaves<'a>), Fault>
-    ensures { Gives with_seen result (group_at (seen at.entry)) }
-{
-    if at.begins_word(b"Group") {
-        read_members_in_brackets(alloc, at.rest())
-    } else {
-        Ok((Items::new(alloc), at))
+    let (leaves, prefixes) = leaves(alloc, tokens.as_slice(), bytes)?;
+    match recognize(alloc, leaves.as_slice())? {
+        Outcome::Refused { place, cause } => {
+            let (line, col) = place_of(tokens.as_slice(), bytes, place);
+            Err(Fault::Refused(refusal_at(cause, line, col)))
+        }
+        Outcome::Document(names) => {
+            match build(alloc, leaves.as_slice(), names.as_slice())? {
+                Some(doc) => Ok((doc, prefixes)),
+                None => unreachable!(),
+            }
+        }
     }
 }
 
-// The rules of a group, in its brackets.
-#[tactic(auto, unfolding(crate::specs::RuleReading::in_group))]
-fn read_members_in_brackets<'a>(
-    alloc: Global,
-    at: Leaves<'a>,
-) -> Result<(Items<Rule>, Leaves<'a>), Fault>
-    ensures { Gives with_seen result (in_group (seen at.entry)) }
+// The line and the column of a token, or of the end.
+fn place_of(tokens: &[Token], bytes: &[u8], place: usize) -> (u64, u64)
+    ensures line { result.0 ≡ line_of bytes.now tokens.now place }
+    ensures col { result.1 ≡ column_of bytes.now tokens.now place }
 {
-    let at = at.past(Kind::Open)?;
-    let (rules, at) = read_members(alloc, at)?;
-    let at = at.past(Kind::Close)?;
-    Ok((rules, at))
-}
-
-// The rule at the front, if any.
-#[tactic(auto, unfolding(crate::specs::RuleReading::members_at))]
-fn read_members<'a>(alloc: Global, at: Leaves<'a>) -> Result<(Items<Rule>, Leaves<'a>), Fault>
-    ensures { Gives with_seen result (members_at (seen at.entry)) }
-{
-    let mut rules = Items::new(alloc);
-    if at.begins(Kind::Close) {
-        return Ok((rules, at));
+    match tokens.get(place) {
+        Some(token) => (token.line, token.col),
+        None => {
+            let end = end_of(bytes);
+            (end.line, end.col)
+        }
     }
-    let (one, at) = read_rule(alloc, at)?;
-    rules.push(one)?;
-    Ok((rules, at))
 }

@@ -1,8 +1,6 @@
-//! Texts that are read, with what they stand for, and texts that are left out.
-mod documents;
-mod left_out;
+//! Documents that are read, with what they stand for, and documents that are refused, with the places.
 mod limits;
-mod parts;
+mod refusals;
 mod written;
 
 use crate::read_doc;
@@ -16,10 +14,19 @@ fn read(alloc: Global, text: &str) -> Result<Doc, Fault> {
     read_doc(alloc, &found, text.as_bytes())
 }
 
-// Whether a call refused its input as one that is left out, at line 1, column 1.
-fn is_left_out(fault: &Fault) -> bool {
-    match fault {
-        Fault::Refused(refusal) => *refusal == Refusal::LeftOut { line: 1, col: 1 },
-        Fault::OutOfMemory => false,
+// The line and the column of a document's refusal.
+fn place_in(refusal: &Refusal) -> (u64, u64) {
+    match refusal {
+        Refusal::Expected { line, col }
+        | Refusal::TooDeep { line, col }
+        | Refusal::IntRange { line, col }
+        | Refusal::UnknownPrefix { line, col }
+        | Refusal::LeftOut { line, col }
+        | Refusal::UnknownBuiltin { line, col }
+        | Refusal::Arity { line, col }
+        | Refusal::BadStrategy { line, col }
+        | Refusal::PriorityRange { line, col }
+        | Refusal::TooMany { line, col, .. } => (*line, *col),
+        _ => (0, 0),
     }
 }

@@ -1,14 +1,8 @@
-pub mod BoundLemmas
 pub mod ChoiceLemmas
 pub mod ChosenLemmas
-pub mod ConflictSetLemmas
-pub mod FactsLemmas
 pub mod GatheringLemmas
 pub mod HistoryLemmas
-pub mod ListingLemmas
-pub mod MatchingLemmas
 pub mod PlainLemmas
 pub mod ReplayLemmas
 pub mod RunLawLemmas
-pub mod ThroughLemmas
 pub mod TurnLemmas

@@ -26,7 +26,7 @@ use Rattle.rif_terms.specs.Facts.{same_const}
 use Rattle.prd_relation.specs.declared.block.Block.{Block}
 use Rattle.prd_relation.specs.declared.block.Block.TheVariants.{Void, Changes}
 use Rattle.prd_relation.specs.declared.scope.Scope.{Scope}
-use Rattle.prd_relation.specs.Values.{Row, all_of, value_of, values_of, bound}
+use Rattle.rif_match.specs.Values.{Row, all_of, value_of, values_of, bound}
 
 -- the value, where the fact is a frame of the object and slot
 abbrev pub slot_value : Const → Const → Fact → Option Const

@@ -20,7 +20,7 @@ use Rattle.rif_terms.specs.InstanceOrder.{instance_cmp}
 use Rattle.rif_terms.specs.Facts.{IsFacts}
 use Rattle.rif_terms.specs.Sets.{has}
 use Rattle.prd_relation.specs.declared.moment.Moment.{Moment}
-use Rattle.prd_relation.specs.ConflictSet.{conflict_set}
+use Rattle.rif_match.specs.ConflictSet.{conflict_set}
 
 pub record Snapshot : Type 0 where
   pub facts : List Fact

@@ -10,14 +10,9 @@ use Rattle.prd_relation.specs.declared.moment.Moment.{Moment}
 use Rattle.session_states.specs.declared.item.Entry.{Entry}
 use Rattle.session_states.specs.declared.turn.Act.TheVariants.{Fired}
 use Rattle.prd_relation.specs.Choice.{chosen_instance, highest_instances, is_lower, is_older, unrefracted_instances}
-use Rattle.prd_relation.specs.ConflictSet.{conflict_set}
 use Rattle.prd_relation.specs.History.{newest_conflict_set, age_of, is_refracted, IsAge, IsRefracted}
 use Rattle.prd_relation.specs.Runs.{AreLawfulFrom, is_disposing}
 use Rattle.prd_relation.specs.Turns.{Session, session_after, session_with, turn_of}
-
--- a conflict set is in order without repeats
-abbrev pub AreConflictSetsSets : Type 0
-AreConflictSetsSets = (doc : Doc) (w : List Fact) → IsSet instance_cmp (conflict_set doc w)
 
 -- the age is a number of which the sentence is true, and the only one
 abbrev pub AreAgesSaid : Type 0

@@ -1,9 +1,6 @@
 pub mod Blocks
-pub mod Builtins
 pub mod Choice
-pub mod ConflictSet
 pub mod Endings
-pub mod Extensions
 pub mod History
 pub mod Laws
 pub mod Layout
@@ -12,4 +9,3 @@ pub mod Runs
 pub mod Session
 pub mod Turns
 pub mod Uses
-pub mod Values

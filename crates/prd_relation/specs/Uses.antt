@@ -19,7 +19,7 @@ use Rattle.prd_relation.specs.declared.uses.FactUse.{FactUse}
 use Rattle.prd_relation.specs.declared.uses.FactUse.TheVariants.{Assert, Retract}
 use Rattle.prd_relation.specs.declared.uses.FrameUse.{FrameUse}
 use Rattle.prd_relation.specs.declared.uses.FrameUse.TheVariants.{Fact as FactFrame, Modify}
-use Rattle.prd_relation.specs.Values.{Row, value_of}
+use Rattle.rif_match.specs.Values.{Row, value_of}
 use Rattle.prd_relation.specs.Blocks.{of_both}
 
 abbrev pub fact_change : FactUse → Fact → Change

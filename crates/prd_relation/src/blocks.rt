@@ -5,16 +5,14 @@ ghost use Rattle.rif_terms.specs.declared.fact.Fact.{Fact};
 ghost use Rattle.rif_terms.specs.declared.fact.Fact.TheVariants.{Atom, Member};
 ghost use Rattle.rif_terms.specs.declared.change.Change.TheVariants.{RetractSlot, RetractObject};
 ghost use Rattle.rif_terms.specs.declared.rule.Decl.TheVariants.{New};
-ghost use Rattle.prd_relation.specs.Values.{value_of, values_of};
+ghost use Rattle.rif_match.specs.Values.{value_of, values_of};
 ghost use Rattle.prd_relation.specs.Blocks.{of_both, least_value, slot_value, after_decl, after_decls, slot_changes, target_changes, action_changes, changes_of, block_in, block_of};
 ghost use Rattle.prd_relation.specs.Uses.{fact_change, frame_change, slot_change, HasMadeAtMost};
 
 use crate::block::Block;
-use crate::facts::Facts;
-use crate::matching::are_same;
 use crate::scope::Scope;
 use crate::uses::{FactUse, FrameUse};
-use crate::values::{pairs_with, value_in, values_in};
+use rif_match::{Facts, are_same, pairs_with, value_in, values_in};
 use rif_terms::{
     Action, Binding, Change, Const, Decl, Fact, Listed, OutOfMemory, Rule, Target, Term,
 };

@@ -2,13 +2,7 @@
 //! empty body, and its statement stands in specs/Laws.antt.
 //!
 //! Source: RIF-PRD, "Operational semantics of a production rule system" and "Conflict resolution".
-ghost use Rattle.prd_relation.specs.Laws.{AreConflictSetsSets, AreAgesSaid, IsRefractionSaid, AreOthersUnaged, ChoosesUnrefracted, ChoosesBest, ChoosesWhereItCan, AreFiringsStates, DisposesEnd};
-
-/// Law: a conflict set has its instances in order, each once.
-#[tactic(auto, using(crate::proofs::ConflictSetLemmas::conflict_set_is_set))]
-pub fn conflict_sets_are_sets()
-    ensures { AreConflictSetsSets }
-{}
+ghost use Rattle.prd_relation.specs.Laws.{AreAgesSaid, IsRefractionSaid, AreOthersUnaged, ChoosesUnrefracted, ChoosesBest, ChoosesWhereItCan, AreFiringsStates, DisposesEnd};
 
 /// Law: the age is how many of the newest states in a row have the instance in their conflict sets.
 pub fn ages_count_states_in_a_row()

@@ -8,7 +8,7 @@ ghost use Rattle.std.specs.Option.{option_copied, option_to_list};
 
 use crate::block::Block;
 use crate::blocks::block;
-use crate::facts::Facts;
+use rif_match::Facts;
 use rif_terms::{Change, Doc, Instance, OutOfMemory, Rule};
 use session_states::{Act, Effect, Entry, Item, State, after};
 use std::alloc::Global;

@@ -14,3 +14,4 @@ pub mod CuttingLemmas
 pub mod SpanLemmas
 pub mod ConstantLemmas
 pub mod RefusalLemmas
+pub mod TextLemmas

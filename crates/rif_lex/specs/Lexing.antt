@@ -51,6 +51,12 @@ Answers (Ok x) given = given ≡ Ok x
 Answers (Err (Refused refusal)) given = given ≡ Err refusal
 Answers (Err OutOfMemory) given = Unit {0}
 
+-- a call answers with a list that it was given, and that is now what is given, unless memory ran out
+abbrev pub AnswersInto : {T : Type 0} → Result T Fault → List Token → Result (List Token) Refusal → Type 0
+AnswersInto (Ok done) now given = given ≡ Ok now
+AnswersInto (Err (Refused refusal)) now given = given ≡ Err refusal
+AnswersInto (Err OutOfMemory) now given = Unit {0}
+
 -- Law: an input has tokens exactly where it isn't too long, is UTF-8, and its text has these tokens.
 pub record IsInput (bytes : List ℕ) (ts : List Token) : Type 0 where
   pub short : length bytes ≤ MOST_INPUT_BYTES

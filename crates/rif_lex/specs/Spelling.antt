@@ -1,6 +1,6 @@
 -- Tokens by their kinds and texts, and as they are written one behind another.
 -- Source: the project's own (docs/FORMATS.md, "Tokens").
-use Rattle.std.specs.Prelude.{◌≡◌, ◌↔◌, ℕ, ◌-◌, ◌&&◌, not, Bool, true, List, [], ◌∷◌, ◌++◌, length, take, drop, map, All, Ok}
+use Rattle.std.specs.Prelude.{◌≡◌, ◌↔◌, ℕ, ◌-◌, ◌&&◌, not, Bool, true, List, [], ◌∷◌, ◌++◌, length, take, drop, map, All, Ok, IsUtf8}
 use Rattle.rif_lex.specs.declared.token.Kind.{Kind}
 use Rattle.rif_lex.specs.declared.token.Kind.TheVariants.{Word, Curie, Local, Var, Int, Open, Hash}
 use Rattle.rif_lex.specs.declared.token.Token.{Token}
@@ -28,6 +28,11 @@ IsToken w = piece_at w.text ≡ Lexeme w.kind (length w.text)
 abbrev pub SlicesAreTokens : Type 0
 SlicesAreTokens = (text : List ℕ) (ts : List Token) → tokens_of text ≡ Ok ts →
     All (λ t. IsToken (written text t) × (line_feeds (written text t).text ≡ 0)) ts
+
+-- Law: in a text of UTF-8 the slice of each token's span is UTF-8.
+abbrev pub SlicesAreTexts : Type 0
+SlicesAreTexts = (text : List ℕ) (ts : List Token) → IsUtf8 text → tokens_of text ≡ Ok ts →
+    All (λ t. IsUtf8 (written text t).text) ts
 
 -- Law: a text is, alone, one token of a kind exactly where it has the kind's form, with nothing behind it.
 abbrev pub FormsAreTokens : Type 0

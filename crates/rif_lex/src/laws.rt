@@ -2,7 +2,7 @@ ghost use Rattle.rif_lex.specs.Lexing.{InputsAreTexts, InputsAreRefused};
 ghost use Rattle.rif_lex.specs.Forms.{TokensAreLongest, BlanksAreWhite};
 ghost use Rattle.rif_lex.specs.Cutting.{TokensAreCut, BadTokenIsFirst, SpansRise, TokensArePlaced, FewTokens};
 ghost use Rattle.rif_lex.specs.Constants.{ConstantsAreTokens};
-ghost use Rattle.rif_lex.specs.Spelling.{FormsAreTokens, SlicesAreTokens, SpelledIsLexed};
+ghost use Rattle.rif_lex.specs.Spelling.{FormsAreTokens, SlicesAreTexts, SlicesAreTokens, SpelledIsLexed};
 
 /// Law: an input has tokens exactly where it isn't too long, is UTF-8, and its text has them.
 pub fn inputs_are_texts()
@@ -47,6 +47,11 @@ pub fn spans_rise()
 /// Law: the slice of a token's span is, alone, one token of its kind, and has no line feed.
 pub fn slices_are_tokens()
     ensures { SlicesAreTokens }
+{}
+
+/// Law: in a text of UTF-8 the slice of each token's span is UTF-8.
+pub fn slices_are_texts()
+    ensures { SlicesAreTexts }
 {}
 
 /// Law: a token's line and column are those of its first character.

@@ -1,6 +1,6 @@
 ghost use Rattle.std.specs.Prelude.{◌≡◌};
-ghost use Rattle.rif_lex.specs.Lexing.{lexed, tokens_of, Answers};
-ghost use Rattle.rif_lex.specs.Scanning.{PutsTokens};
+ghost use Rattle.rif_lex.specs.Lexing.{lexed, tokens_of, Answers, AnswersInto};
+ghost use Rattle.rif_lex.specs.Scanning.{IsTextFor, PutsTokens};
 
 use crate::piece::Piece;
 use crate::place::{Place, past, past_token};
@@ -16,9 +16,32 @@ use std::alloc::Global;
 /// many as there are bytes, and more than dense rules have.
 ///
 /// Source: our own (docs/FORMATS.md, "Tokens").
-#[tactic(auto, using(crate::proofs::LexingLemmas::lexed_text, crate::proofs::LexingLemmas::lexed_broken))]
 pub fn tokens(alloc: Global, bytes: &[u8]) -> Result<Tokens, Fault>
     ensures { Answers result (lexed bytes.now) }
+{
+    read_text(bytes)?;
+    let mut found = Vec::with_capacity(alloc, bytes.len() / 2)?;
+    push_tokens(&mut found, bytes)?;
+    Ok(Tokens::from_vec(found))
+}
+
+/// The same into a list that is there: it is cleared first, and its room is used again. After a fault
+/// some of the tokens may stand in it.
+///
+/// Source: our own (docs/FORMATS.md, "Tokens").
+pub fn tokens_into(found: &mut Vec<Token>, bytes: &[u8]) -> Result<(), Fault>
+    ensures { AnswersInto result found.new.items (lexed bytes.now) }
+{
+    found.clear();
+    read_text(bytes)?;
+    push_tokens(found, bytes)
+}
+
+/// Whether the bytes are a text of UTF-8 that isn't too long, or the refusal that says which of the two
+/// they aren't.
+#[tactic(auto, using(crate::proofs::LexingLemmas::lexed_text, crate::proofs::LexingLemmas::lexed_broken))]
+fn read_text(bytes: &[u8]) -> Result<(), Fault>
+    ensures { IsTextFor result (lexed bytes.now) (tokens_of bytes.now) }
 {
     if bytes.len() > MOST_INPUT_BYTES {
         return Err(Fault::Refused(Refusal::InputTooLong));
@@ -27,9 +50,7 @@ pub fn tokens(alloc: Global, bytes: &[u8]) -> Result<Tokens, Fault>
         let at = broken.valid_up_to() as u64;
         return Err(Fault::Refused(Refusal::NotUtf8 { at }));
     }
-    let mut found = Vec::with_capacity(alloc, bytes.len() / 2)?;
-    push_tokens(&mut found, bytes)?;
-    Ok(Tokens::from_vec(found))
+    Ok(())
 }
 
 /// Puts the tokens of a text of UTF-8 behind those that are there.

@@ -1,6 +1,6 @@
 ghost use Rattle.std.specs.Prelude.{◌≡◌, ◌+◌, ◌<◌, ◌^◌, length, IsTrue};
 ghost use Rattle.std.specs.Str.{IsAscii};
-ghost use Rattle.rif_lex.specs.Places.{place_after, place_past, line_feeds};
+ghost use Rattle.rif_lex.specs.Places.{first_place, place_after, place_past, line_feeds};
 ghost use Rattle.rif_lex.specs.Scanning.{IsCounted};
 
 /// A place of a text: its offset in bytes from 0, and its line and column, counted from 1, columns
@@ -73,4 +73,18 @@ pub fn past_token(from: Place, token: &[u8], is_ascii: bool) -> Place
         line: from.line,
         col: from.col + length as u64,
     }
+}
+
+/// The place just past the last character of a text. The cost is its length.
+///
+/// Source: our own (docs/FORMATS.md, "Tokens").
+pub fn end_of(text: &[u8]) -> Place
+    ensures { result ≡ place_past first_place text.now }
+{
+    let start = Place {
+        offset: 0,
+        line: 1,
+        col: 1,
+    };
+    past(start, text)
 }

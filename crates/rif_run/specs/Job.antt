@@ -1,11 +1,17 @@
--- The text of the run of a job.
--- Source: the project's own (docs/FORMATS.md, "Jobs" and "The trace"; docs/PROFILE.md, "Replay").
-use Rattle.std.specs.Prelude.{◌≡◌, ℕ, List}
+-- The text of the run of a job, and the refusal of a run.
+-- Source: the project's own (docs/FORMATS.md, "Jobs", "What `run` evaluates" and "The trace"; docs/PROFILE.md,
+-- "Replay").
+use Rattle.std.specs.Prelude.{◌≡◌, ◌⊎◌, ℕ, true, false, List}
+use Rattle.rif_terms.specs.declared.fault.Fault.{Fault}
+use Rattle.rif_terms.specs.declared.fault.Fault.TheVariants.{Refused, OutOfMemory}
+use Rattle.rif_terms.specs.declared.refusal.Refusal.{Refusal}
+use Rattle.rif_terms.specs.declared.refusal.Refusal.TheVariants.{LeftOut}
 use Rattle.session_states.specs.declared.item.Entry.{Entry}
 use Rattle.prd_relation.specs.Runs.{IsReplay, run_of, facts_at_end}
 use Rattle.rif_script.specs.declared.job.Job.{Job}
 use Rattle.rif_script.specs.Cutting.{script_entries, batches_of_entries, left_of_entries}
-use Rattle.rif_script.specs.Jobs.{IsFirstFormJob}
+use Rattle.rif_script.specs.Jobs.{IsJob, IsRefused}
+use Rattle.rif_script.specs.Simple.{is_simple_job}
 use Rattle.rif_script.specs.Trace.{run_text}
 
 -- the text is that of the run of these batches, with what is left of the job's script
@@ -18,6 +24,25 @@ abbrev pub IsRunOf : Job → List ℕ → Type 0
 IsRunOf job text =
     (batches : List (List Entry)) × IsReplay job.doc (batches_of_entries (script_entries job)) batches × IsTextOf job batches text
 
+-- the input is this job, and a run can evaluate it
+pub record IsSimpleJob (input : List ℕ) (job : Job) : Type 0 where
+  pub read : IsJob input job
+  pub simple : is_simple_job job ≡ true
+
+-- the input is this job, and a run can't evaluate it yet
+pub record IsOtherJob (input : List ℕ) (job : Job) : Type 0 where
+  pub read : IsJob input job
+  pub more : is_simple_job job ≡ false
+
 -- the text is that of the run of the job that an input is
 abbrev pub IsRunText : List ℕ → List ℕ → Type 0
-IsRunText input text = (job : Job) × IsFirstFormJob input job × IsRunOf job text
+IsRunText input text = (job : Job) × IsSimpleJob input job × IsRunOf job text
+
+-- an input has this refusal, or it is a job that can't be evaluated yet, which is left out as a whole
+abbrev pub IsRunRefused : List ℕ → Refusal → Type 0
+IsRunRefused input refusal = IsRefused input refusal ⊎ ((refusal ≡ LeftOut 1 1) × (job : Job) × IsOtherJob input job)
+
+-- a call that gives no text has no memory, or tells the refusal
+abbrev pub RefusesRun : List ℕ → Fault → Type 0
+RefusesRun input OutOfMemory = Unit {0}
+RefusesRun input (Refused refusal) = IsRunRefused input refusal

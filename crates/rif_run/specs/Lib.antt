@@ -1,4 +1,5 @@
 pub mod Answer
+pub mod Commands
 pub mod Job
 pub mod Reading
 pub mod Run

@@ -21,3 +21,12 @@ IsAnswered Usage = ⊥
 IsAnswered ReadFault = ⊥
 IsAnswered WriteFault = ⊥
 IsAnswered OutOfMemory = ⊥
+
+-- the status says that the command did what it is for, or found no memory
+abbrev pub IsDoneOrNoMemory : Status → Type 0
+IsDoneOrNoMemory Done = Unit {0}
+IsDoneOrNoMemory OutOfMemory = Unit {0}
+IsDoneOrNoMemory Refused = ⊥
+IsDoneOrNoMemory Usage = ⊥
+IsDoneOrNoMemory ReadFault = ⊥
+IsDoneOrNoMemory WriteFault = ⊥

@@ -1,7 +1,9 @@
-ghost use Rattle.std.specs.Prelude.{◌≡◌, IfOk};
+ghost use Rattle.std.specs.Prelude.{◌≡◌, IfErr, IfOk};
 ghost use Rattle.rif_script.specs.RefusalLine.{refusal_line};
-ghost use Rattle.rif_run.specs.Answer.{IsAnswerTo};
+ghost use Rattle.rif_run.specs.Answer.{IsAnswerTo, IsTextFor, RefusesTo};
 
+use crate::check::check_text;
+use crate::command::Command;
 use crate::job::run_text;
 use crate::status::Status;
 use rif_script::write_refusal;
@@ -15,11 +17,12 @@ pub struct Answer {
     pub text: Vec<u8>,
 }
 
-/// The answer to an input: the text of its run with `Done`, or the line of its refusal with `Refused`.
-pub fn answer_to(alloc: Global, input: &[u8]) -> Result<Answer, OutOfMemory>
-    ensures { IfOk result (λ answer. IsAnswerTo input.now answer.status answer.text.items) }
+/// The answer to an input: the text that the command makes of it with `Done`, or the line of its refusal
+/// with `Refused`.
+pub fn answer_to(alloc: Global, command: Command, input: &[u8]) -> Result<Answer, OutOfMemory>
+    ensures { IfOk result (λ answer. IsAnswerTo command input.now answer.status answer.text.items) }
 {
-    match run_text(alloc, input) {
+    match text_for(alloc, command, input) {
         Ok(text) => Ok(Answer {
             status: Status::Done,
             text,
@@ -29,6 +32,16 @@ pub fn answer_to(alloc: Global, input: &[u8]) -> Result<Answer, OutOfMemory>
             text: refusal_text(alloc, &refusal)?,
         }),
         Err(Fault::OutOfMemory) => Err(OutOfMemory),
+    }
+}
+
+fn text_for(alloc: Global, command: Command, input: &[u8]) -> Result<Vec<u8>, Fault>
+    ensures ok { IfOk result (λ text. IsTextFor command input.now text.items) }
+    ensures refused { IfErr result (RefusesTo command input.now) }
+{
+    match command {
+        Command::Check => check_text(alloc, input),
+        Command::Run => run_text(alloc, input),
     }
 }
 

@@ -1,20 +1,23 @@
 ghost use Rattle.std.specs.Prelude.{IfErr, IfOk};
 ghost use Rattle.rif_script.specs.Cutting.{HasItsClients};
-ghost use Rattle.rif_script.specs.Jobs.{RefusesJob};
-ghost use Rattle.rif_run.specs.Job.{IsRunOf, IsRunText};
+ghost use Rattle.rif_run.specs.Job.{IsRunOf, IsRunText, RefusesRun};
 
 use prd_relation::replay_plain;
-use rif_script::{Job, batches_of, read_job, write_run};
-use rif_terms::{Fault, OutOfMemory};
+use rif_script::{Job, batches_of, read_job, simple_job, write_run};
+use rif_terms::{Fault, OutOfMemory, Refusal};
 use std::alloc::Global;
 
-/// The text of the run of the job that the bytes are, or why there is none. The run is the plain
-/// program's, whose cost grows with the state.
+/// The text of the run of the job that the bytes are, or why there is none: the bytes are refused, or the
+/// job has more than a run can evaluate yet, which is refused as left out at line 1, column 1. The run is
+/// the plain program's, whose cost grows with the state.
 pub fn run_text(alloc: Global, bytes: &[u8]) -> Result<Vec<u8>, Fault>
     ensures ok { IfOk result (λ text. IsRunText bytes.now text.items) }
-    ensures refused { IfErr result (RefusesJob bytes.now) }
+    ensures refused { IfErr result (RefusesRun bytes.now) }
 {
     let job = read_job(alloc, bytes)?;
+    if !simple_job(&job) {
+        return Err(Fault::Refused(Refusal::LeftOut { line: 1, col: 1 }));
+    }
     Ok(text_of_job(alloc, &job)?)
 }
 

@@ -41,7 +41,7 @@ impl Status {
     {
         match self {
             Status::Done | Status::Refused => None,
-            Status::Usage => Some("usage: rif_run run"),
+            Status::Usage => Some("usage: rif_run run, or rif_run check"),
             Status::ReadFault => Some("rif_run: the input could not be read"),
             Status::WriteFault => Some("rif_run: the output could not be written"),
             Status::OutOfMemory => Some("rif_run: out of memory"),

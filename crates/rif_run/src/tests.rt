@@ -76,15 +76,52 @@ fn a_failing_second_write_is_a_write_fault(rt: HostRuntime) -> Result<(), Fail> 
     Ok(())
 }
 
+/// The words, an input, the status, and what is written.
+static ANSWERS: &[(&str, &str, Status, &str)] = &[
+    (
+        "run",
+        "        ",
+        Status::Refused,
+        "refused 4 line 1 col 9\n",
+    ),
+    (
+        "run",
+        "Document(Group(If Or() Then Do(Assert(_q()))))\n",
+        Status::Refused,
+        "refused 8 line 1 col 1\n",
+    ),
+    (
+        "check",
+        "Document(Group(If Or() Then Do(Assert(_q()))))\n",
+        Status::Done,
+        "Document(Group(\nGroup 0(If Or() Then Do(Assert(_q())))\n))\n",
+    ),
+    (
+        "check",
+        "Document()\n%%\na jump\n",
+        Status::Refused,
+        "refused 17 line 3\n",
+    ),
+    (
+        "run",
+        "Document(Group(Do(Assert(_p(1)))))\n%%\na fire 5\n",
+        Status::Done,
+        "turn 1\nin a fire 5\nfired 1\n+ _p(1)\nturn 2\nquiet\nend turns 2 firings 1 facts 1\n",
+    ),
+];
+
 #[test]
-fn an_input_that_is_no_job_is_refused(rt: HostRuntime) -> Result<(), Fail> {
+fn each_command_answers_an_input(rt: HostRuntime) -> Result<(), Fail> {
     let alloc = rt.alloc();
-    let words = texts(alloc, &["run"])?;
-    let mut source = MemSource::new(spaces(alloc, 64)?, 16, Vec::new(alloc));
-    let mut sink = MemSink::new(alloc, 64, 64, Vec::new(alloc))?;
-    let status = rif_run(alloc, &words, &mut source, &mut sink);
-    assert!(rt; status == Status::Refused);
-    assert_eq!(rt; sink.bytes(), b"refused 8 line 1 col 1\n".as_slice());
+    for (word, input, wanted, written) in ANSWERS {
+        let words = texts(alloc, &[*word])?;
+        let input = input.as_bytes().to_vec(alloc)?;
+        let mut source = MemSource::new(input, 16, Vec::new(alloc));
+        let mut sink = MemSink::new(alloc, 128, 64, Vec::new(alloc))?;
+        let status = rif_run(alloc, &words, &mut source, &mut sink);
+        assert_eq!(rt; status, *wanted);
+        assert_eq!(rt; sink.bytes(), written.as_bytes());
+    }
     Ok(())
 }
 
@@ -101,6 +138,10 @@ fn status_without_ends(alloc: Global, words: &[&str]) -> Result<Status, OutOfMem
 fn other_words_read_and_write_nothing(rt: HostRuntime) -> Result<(), Fail> {
     let alloc = rt.alloc();
     assert_eq!(rt; status_without_ends(alloc, &["run", "now"])?, Status::Usage);
+    assert_eq!(rt;
+        status_without_ends(alloc, &["check", "run"])?,
+        Status::Usage
+    );
     assert_eq!(rt; status_without_ends(alloc, &[])?, Status::Usage);
     assert_eq!(rt; status_without_ends(alloc, &["--help"])?, Status::Usage);
     Ok(())

@@ -1,8 +1,10 @@
 ghost use Rattle.std.specs.Prelude.{◌≡◌, ◌-◌, ◌<◌, ◌^◌, ◌↔◌, IsTrue};
-ghost use Rattle.rif_run.specs.Run.{AreAccepted, WritesAnswer, WritesFrontOfAnswer};
-ghost use Rattle.rif_run.specs.Statuses.{IsAnswered};
+ghost use Rattle.rif_run.specs.Commands.{AreAccepted};
+ghost use Rattle.rif_run.specs.Run.{AreTaken, WritesAnswer, WritesFrontOfAnswer};
+ghost use Rattle.rif_run.specs.Statuses.{IsAnswered, IsDoneOrNoMemory};
 
 use crate::answer::answer_to;
+use crate::command::command_of;
 use crate::reading::{MOST_BYTES_READ, ReadError, read_up_to};
 use crate::status::Status;
 use crate::writing::write_text;
@@ -10,11 +12,12 @@ use rif_script::{Sink, Source};
 use rif_terms::Text;
 use std::alloc::Global;
 
-/// Does what the words say: reads a job from `src`, and writes its run, or the line of its refusal, to
-/// `out`.
+/// Does what the words say with a job from `src`: for `run` it writes the job's run to `out`, for `check`
+/// its document in canonical text, and in place of either the line of a refusal.
 ///
 /// The words are those behind the program's name. Every text is made whole before its first byte is
-/// given, and an object that has failed isn't called again. The cost is that of the job's run.
+/// given, and an object that has failed isn't called again. The cost is that of the job's run, or of
+/// reading the job.
 ///
 /// Source: our own (docs/FORMATS.md, "Words" and "Statuses").
 pub fn rif_run<S: Source, K: Sink>(
@@ -32,37 +35,31 @@ pub fn rif_run<S: Source, K: Sink>(
     ensures out_of_memory { result ≡ Status.OutOfMemory → out.new ≡ out.old }
     ensures write_fault { result ≡ Status.WriteFault →
         (K.faults out.old < K.faults out.new)
-        × WritesFrontOfAnswer (S.left src.old) (S.left src.new) (K.written out.old) (K.written out.new) }
+        × WritesFrontOfAnswer words.now.items (S.left src.old) (S.left src.new) (K.written out.old) (K.written out.new) }
 
     // After `Done` and `Refused` both counts of faults stand, and the answer's text was written whole.
     ensures done_and_refused { IsAnswered result →
         (S.faults src.new ≡ S.faults src.old) × (K.faults out.new ≡ K.faults out.old) }
     ensures answer { IsAnswered result →
-        WritesAnswer result (S.left src.old) (S.left src.new) (K.written out.old) (K.written out.new) }
+        WritesAnswer words.now.items result (S.left src.old) (S.left src.new) (K.written out.old) (K.written out.new) }
+
+    // A command, an input that it is for, and no fault lead to `Done`, where memory suffices.
+    ensures complete { AreTaken words.now.items (S.left src.old) → S.faults src.new ≡ S.faults src.old
+        → K.faults out.new ≡ K.faults out.old → IsDoneOrNoMemory result }
 {
-    if !are_accepted(words) {
+    let Some(command) = command_of(words) else {
         return Status::Usage;
-    }
+    };
     let input = match read_up_to(alloc, src, MOST_BYTES_READ) {
         Ok(input) => input,
         Err(ReadError::Failed) => return Status::ReadFault,
         Err(ReadError::OutOfMemory) => return Status::OutOfMemory,
     };
-    let Ok(answer) = answer_to(alloc, input.as_slice()) else {
+    let Ok(answer) = answer_to(alloc, command, input.as_slice()) else {
         return Status::OutOfMemory;
     };
     match write_text(out, answer.text.as_slice()) {
         Ok(()) => answer.status,
         Err(_) => Status::WriteFault,
-    }
-}
-
-/// Whether the program takes these words.
-fn are_accepted(words: &Vec<Text>) -> bool
-    ensures { IsTrue result ↔ AreAccepted words.now.items }
-{
-    match words.as_slice() {
-        [command] => command.as_str() == "run",
-        _ => false,
     }
 }

@@ -139,7 +139,7 @@ abbrev new_among : List (List ℕ) → List (List ℕ) → List (List ℕ)
 new_among known [] = []
 new_among known (n ∷ ns) = cond (has_name known n) (new_among known ns) (n ∷ new_among known ns)
 
-same_bytes : (v n : List ℕ) → bytes_eq v n ≡ true → v ≡ n
+pub same_bytes : (v n : List ℕ) → bytes_eq v n ≡ true → v ≡ n
 same_bytes v n same = grind (arith, bytes_eq-Decides)
 
 -- a known name is no new one

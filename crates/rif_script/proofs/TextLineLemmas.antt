@@ -2,7 +2,7 @@
 use Rattle.std.proofs.Common.{◌≡◌, ◌≢◌, ◌<◌, ◌-◌, length-drop, ◌∙◌, sym, ap, refl, ℕ, ◌+◌, ◌==◌, ◌≤◌, subst, arith, suc, Bool, true, false, cond, List, [], ◌∷◌, ◌++◌, append_assoc, take, drop, length}
 use Rattle.std.proofs.Math.Seq.{take-add}
 use Rattle.std.proofs.lemmas.List.{drop-drop, length-take, take_all}
-use Rattle.rif_script.specs.Jobs.{document_text, is_separator, joined_before, lines_behind, lines_of, script_lines, with_byte}
+use Rattle.rif_script.specs.Jobs.{document_text, is_separator, joined_before, lines_before, lines_behind, lines_of, script_lines, with_byte}
 use Rattle.rif_script.specs.ReadingLines.{line_length}
 
 -- a text's lines from its first byte on, where the first line isn't that byte alone
@@ -57,6 +57,26 @@ document_ends text some_ here = rw (first_of_lines text some_, here) refl
 pub script_begins : (text : List ℕ) → text ≢ [] → is_separator (take (line_length text) text) ≡ true →
     script_lines text ≡ lines_of (drop (line_length text) text)
 script_begins text some_ here = rw (first_of_lines text some_, here) refl
+
+-- how many lines stand before it
+pub no_lines_before : (text : List ℕ) → text ≢ [] → is_separator (take (line_length text) text) ≡ true →
+    lines_before (lines_of text) ≡ 0
+no_lines_before text some_ here = rw (first_of_lines text some_, here) refl
+
+one_line_before : (text : List ℕ) → text ≢ [] → is_separator (take (line_length text) text) ≡ false →
+    lines_before (lines_of text) ≡ suc (lines_before (lines_of (drop (line_length text) text)))
+one_line_before text some_ other = rw (first_of_lines text some_, other) refl
+
+pub count_so_far : (at n count : ℕ) (text : List ℕ) → n ≡ line_length (drop at text) → drop at text ≢ [] →
+    is_separator (take (line_length (drop at text)) (drop at text)) ≡ false →
+    lines_before (lines_of text) ≡ count + lines_before (lines_of (drop at text)) →
+    lines_before (lines_of text) ≡ (count + 1) + lines_before (lines_of (drop (at + n) text))
+count_so_far at n count text is some_ other before =
+    let k = line_length (drop at text) in
+    let more : lines_before (lines_of (drop at text)) ≡ suc (lines_before (lines_of (drop (at + k) text))) =
+    one_line_before (drop at text) some_ other ∙ ap (λ (xs : List ℕ). suc (lines_before (lines_of xs))) (drop-drop k at text) in
+    let all : lines_before (lines_of text) ≡ (count + 1) + lines_before (lines_of (drop (at + k) text)) = omega (arith, before, more) in
+    subst (λ (m : ℕ). lines_before (lines_of text) ≡ (count + 1) + lines_before (lines_of (drop (at + m) text))) (sym is) all
 
 -- the same, for what is left of a text behind so many bytes
 pub document_so_far : (at n : ℕ) (text : List ℕ) → n ≡ line_length (drop at text) → drop at text ≢ [] →

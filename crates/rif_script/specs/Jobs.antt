@@ -1,30 +1,38 @@
--- Which job an input is.
---     lines_of text           a text's lines, each with the line feed that ends it; the last may have none
---     document_text bytes     the bytes before the first line that is `%%`
---     script_lines bytes      the lines behind it
---     IsDocument bytes doc    the bytes are this document
---     IsLine line given       what a line of a script is: a client's name and its item, or nothing
---     IsScript                the clients and items of the lines of a script
---     IsFirstFormJob          an input is this job of the first form
---     IsRefused               an input has this refusal
--- Source: the project's own (docs/FORMATS.md, "Jobs", "The first form" and "Refusals").
-use Rattle.std.specs.Prelude.{◌≡◌, ◌≤◌, ◌<◌, ◌⊎◌, ℕ, ◌+◌, ◌==◌, ◌||◌, ◌&&◌, nat_le, pos, Bool, true, false, if◌then◌else◌, List, [], ◌∷◌, ◌++◌, Option, Some, None, Ok, codes, bytes_eq, length, map}
-use Rattle.std.specs.Char.{is_ascii}
+-- Which job an input is, or what refuses it.
+--     lines_of text               a text's lines, each with the line feed that ends it; the last may have none
+--     document_text bytes         the bytes before the first line that is `%%`
+--     script_lines bytes          the lines behind it
+--     first_script_line bytes     the number of the first of these, counted from 1 over the whole input
+--     IsItemForm prefixes ws item  tokens behind a client's name are this item
+--     IsLine prefixes line given  what a line of a script is: a client's name and its item, or nothing
+--     IsScript                    the clients and items of the lines of a script
+--     IsScriptRefusal             the first line that makes lines no script, and its least refusal
+--     IsJob bytes job             an input is this job
+--     IsRefused bytes refusal     an input has this refusal
+--     OneOutcome                  law: an input is one of these, and has one value of it
+-- Source: the project's own (docs/FORMATS.md, "Jobs" and "Refusals").
+use Rattle.std.specs.Prelude.{◌≡◌, ◌≤◌, ◌<◌, ◌⊎◌, ℕ, ◌+◌, ◌==◌, ◌||◌, ◌&&◌, nat_le, pos, suc, Bool, true, false, if◌then◌else◌, List, [], ◌∷◌, ◌++◌, Option, Some, None, Ok, Err, IsUtf8, codes, bytes_eq, length, map}
 use Rattle.std.specs.List.{list_all}
+use Rattle.std.specs.Str.{IsValidUpTo}
 use Rattle.rif_terms.specs.declared.limits.TheConstants.{MOST_INPUT_BYTES, MOST_CLIENTS, MOST_ITEMS, MOST_BUDGETS, MOST_NAME_CHARACTERS}
 use Rattle.rif_terms.specs.declared.change.Change.TheVariants.{Assert, Retract, RetractSlot, RetractObject, Modify}
+use Rattle.rif_terms.specs.declared.fact.Fact.TheVariants.{Frame}
 use Rattle.rif_terms.specs.declared.refusal.Refusal.{Refusal}
-use Rattle.rif_terms.specs.declared.refusal.Refusal.TheVariants.{InputTooLong, LeftOut}
+use Rattle.rif_terms.specs.declared.refusal.Refusal.TheVariants.{InputTooLong, NotUtf8, BadLine, BudgetTooLarge, TooManyItems, TooManyClients}
 use Rattle.rif_terms.specs.declared.fault.Fault.{Fault}
 use Rattle.rif_terms.specs.declared.fault.Fault.TheVariants.{Refused, OutOfMemory}
 use Rattle.rif_terms.specs.declared.rule.Doc.{Doc}
+use Rattle.rif_lex.specs.declared.token.Kind.TheVariants.{Word}
 use Rattle.rif_lex.specs.declared.token.Token.{Token}
 use Rattle.rif_lex.specs.Characters.{begins, is_between}
 use Rattle.rif_lex.specs.Lexing.{lexed}
-use Rattle.prd_reader.specs.Leaves.{Leaf, word, leaves_of}
-use Rattle.prd_reader.specs.Values.{has_name, place_of}
-use Rattle.prd_reader.specs.FactForm.{IsFactForm, IsNumberForm}
-use Rattle.prd_reader.specs.FirstForm.{IsFirstForm, are_spaced_from}
+use Rattle.rif_lex.specs.Spelling.{Written, written}
+use Rattle.prd_reader.specs.declared.leaf.Leaf.{Leaf}
+use Rattle.prd_reader.specs.Documents.{IsRead, IsRefused as IsDocumentRefused}
+use Rattle.prd_reader.specs.FactForm.{IsConstForm, IsConstsForm, IsFactForm, IsNumberForm}
+use Rattle.prd_reader.specs.Leaves.{leaves_from}
+use Rattle.prd_reader.specs.Prefixes.{Prefixes}
+use Rattle.prd_reader.specs.Values.{place_of}
 use Rattle.session_states.specs.declared.item.Item.{Item}
 use Rattle.session_states.specs.declared.item.Item.TheVariants.{Change, Fire, Until, Halt, Dispose}
 use Rattle.rif_script.specs.declared.job.Job.{Job}
@@ -58,6 +66,14 @@ document_text bytes = joined_before (lines_of bytes)
 abbrev pub script_lines : List ℕ → List (List ℕ)
 script_lines bytes = lines_behind (lines_of bytes)
 
+-- how many lines stand before the first that is `%%`
+abbrev pub lines_before : List (List ℕ) → ℕ
+lines_before [] = 0
+lines_before (line ∷ lines) = if is_separator line then 0 else suc (lines_before lines)
+
+abbrev pub first_script_line : List ℕ → ℕ
+first_script_line bytes = lines_before (lines_of bytes) + 2
+
 abbrev pub is_comment : List ℕ → Bool
 is_comment line = begins 35 line
 
@@ -69,43 +85,61 @@ is_client_character b = is_between 97 122 b || (is_between 48 57 b || b == 95)
 abbrev pub is_client_name : List ℕ → Bool
 is_client_name text = nat_le (length text) MOST_NAME_CHARACTERS && list_all is_client_character text
 
--- the leaves of a line's tokens, outside which only white space stands
-pub record HasLeaves (line : List ℕ) (ls : List Leaf) : Type 0 where
-  pub tokens : List Token
-  pub lexed : lexed line ≡ Ok tokens
-  pub spaced : are_spaced_from 0 line tokens ≡ true
-  pub leaves : leaves_of line tokens ≡ ls
+-- a WORD of this text
+abbrev pub word : List ℕ → Written
+word text = record { kind = Word; text = text }
 
--- what may stand behind a client's name: `assert` and a fact, `retract` and a fact, or `fire` and a number
-abbrev pub IsItemForm : List Leaf → Item → Type 0
-IsItemForm ls (Change (Assert fact)) = (more : List Leaf) × (ls ≡ word (codes "assert") ∷ more) × IsFactForm more fact
-IsItemForm ls (Change (Retract fact)) = (more : List Leaf) × (ls ≡ word (codes "retract") ∷ more) × IsFactForm more fact
-IsItemForm ls (Change (RetractSlot o s)) = ⊥
-IsItemForm ls (Change (RetractObject o)) = ⊥
-IsItemForm ls (Change (Modify o s v)) = ⊥
-IsItemForm ls (Fire budget) = (more : List Leaf) × (ls ≡ word (codes "fire") ∷ more) × IsNumberForm more (pos budget)
-IsItemForm ls (Until budget) = ⊥
-IsItemForm ls Halt = ⊥
-IsItemForm ls Dispose = ⊥
+-- the leaves of tokens behind an item's word, with a document's prefixes
+abbrev pub sent_leaves : Prefixes → List Written → List Leaf
+sent_leaves prefixes ws = leaves_from prefixes [] ws
+
+-- The tokens begin with this word, and what stands behind it has the form.
+abbrev pub BehindWord : List ℕ → List Written → (List Written → Type 0) → Type 0
+BehindWord text ws Form = (more : List Written) × (ws ≡ word text ∷ more) × Form more
+
+-- what may stand behind a client's name
+abbrev pub IsItemForm : Prefixes → List Written → Item → Type 0
+IsItemForm prefixes ws (Change (Assert fact)) =
+    BehindWord (codes "assert") ws (λ more. IsFactForm (sent_leaves prefixes more) fact)
+IsItemForm prefixes ws (Change (Retract fact)) =
+    BehindWord (codes "retract") ws (λ more. IsFactForm (sent_leaves prefixes more) fact)
+IsItemForm prefixes ws (Change (RetractSlot o s)) =
+    BehindWord (codes "retract") ws (λ more. IsConstsForm (sent_leaves prefixes more) o s)
+IsItemForm prefixes ws (Change (RetractObject o)) =
+    BehindWord (codes "retract") ws (λ more. IsConstForm (sent_leaves prefixes more) o)
+IsItemForm prefixes ws (Change (Modify o s v)) =
+    BehindWord (codes "modify") ws (λ more. IsFactForm (sent_leaves prefixes more) (Frame o s v))
+IsItemForm prefixes ws (Fire budget) =
+    BehindWord (codes "fire") ws (λ more. IsNumberForm (sent_leaves prefixes more) budget)
+IsItemForm prefixes ws (Until budget) =
+    BehindWord (codes "until") ws (λ more. IsNumberForm (sent_leaves prefixes more) budget)
+IsItemForm prefixes ws Halt = BehindWord (codes "halt") ws (λ more. more ≡ [])
+IsItemForm prefixes ws Dispose = BehindWord (codes "dispose") ws (λ more. more ≡ [])
 
 -- a client's name and its item
-pub record IsSentForm (ls : List Leaf) (sent : List ℕ × Item) : Type 0 where
-  pub rest : List Leaf
-  pub front : ls ≡ word sent.0 ∷ rest
+pub record IsSentForm (prefixes : Prefixes) (ws : List Written) (sent : List ℕ × Item) : Type 0 where
+  pub rest : List Written
+  pub front : ws ≡ word sent.0 ∷ rest
   pub name : is_client_name sent.0 ≡ true
-  pub item : IsItemForm rest sent.1
+  pub item : IsItemForm prefixes rest sent.1
 
--- nothing is sent by a comment or by white space
-abbrev pub IsLine : List ℕ → Option (List ℕ × Item) → Type 0
-IsLine line None = (is_comment line ≡ true) ⊎ HasLeaves line []
-IsLine line (Some sent) = (is_comment line ≡ false) × (ls : List Leaf) × HasLeaves line ls × IsSentForm ls sent
+-- a line that can be read, which sends this
+pub record IsSentLine (prefixes : Prefixes) (line : List ℕ) (sent : List ℕ × Item) : Type 0 where
+  pub tokens : List Token
+  pub lexed : lexed line ≡ Ok tokens
+  pub form : IsSentForm prefixes (map (written line) tokens) sent
+
+-- nothing is sent by a comment, by white space or by nothing at all
+abbrev pub IsLine : Prefixes → List ℕ → Option (List ℕ × Item) → Type 0
+IsLine prefixes line None = (is_comment line ≡ true) ⊎ (lexed line ≡ Ok [])
+IsLine prefixes line (Some sent) = (is_comment line ≡ false) × IsSentLine prefixes line sent
 
 -- what each line is
-abbrev pub AreLines : List (List ℕ) → List (Option (List ℕ × Item)) → Type 0
-AreLines [] [] = Unit {0}
-AreLines (line ∷ lines) (given ∷ more) = IsLine line given × AreLines lines more
-AreLines [] (given ∷ more) = ⊥
-AreLines (line ∷ lines) [] = ⊥
+abbrev pub AreLines : Prefixes → List (List ℕ) → List (Option (List ℕ × Item)) → Type 0
+AreLines prefixes [] [] = Unit {0}
+AreLines prefixes (line ∷ lines) (given ∷ more) = IsLine prefixes line given × AreLines prefixes lines more
+AreLines prefixes [] (given ∷ more) = ⊥
+AreLines prefixes (line ∷ lines) [] = ⊥
 
 -- what the lines that send something send, in order
 abbrev pub sent_by : List (Option (List ℕ × Item)) → List (List ℕ × Item)
@@ -140,39 +174,95 @@ budget_sum (sent ∷ more) = budget_of sent.1 + budget_sum more
 abbrev pub numbered_items : List (List ℕ) → List (List ℕ × Item) → List (ℕ × Item)
 numbered_items names sent = map (λ (one : List ℕ × Item). (place_of names one.0, one.1)) sent
 
+-- what is sent is within the limits
+pub record IsWithinLimits (sent : List (List ℕ × Item)) : Type 0 where
+  pub few_budgets : budget_sum sent ≤ MOST_BUDGETS
+  pub few_items : length sent ≤ MOST_ITEMS
+  pub few_clients : length (names_of sent) ≤ MOST_CLIENTS
+
 -- the lines are a script of these clients, in the order of their numbers, with these items, within the limits
-pub record IsScript (lines : List (List ℕ)) (names : List (List ℕ)) (items : List (ℕ × Item)) : Type 0 where
+pub record IsScript (prefixes : Prefixes) (lines : List (List ℕ)) (names : List (List ℕ)) (items : List (ℕ × Item)) : Type 0 where
   pub given : List (Option (List ℕ × Item))
-  pub lines_are : AreLines lines given
+  pub lines_are : AreLines prefixes lines given
   pub clients : names ≡ names_of (sent_by given)
   pub sent : items ≡ numbered_items names (sent_by given)
-  pub few_clients : length names ≤ MOST_CLIENTS
-  pub few_items : length items ≤ MOST_ITEMS
-  pub few_budgets : budget_sum (sent_by given) ≤ MOST_BUDGETS
+  pub within : IsWithinLimits (sent_by given)
 
--- the bytes are the document of their tokens
-pub record IsDocument (bytes : List ℕ) (doc : Doc) : Type 0 where
-  pub tokens : List Token
-  pub lexed : lexed bytes ≡ Ok tokens
-  pub form : IsFirstForm tokens bytes doc
+-- The line is a faulty one, where this was sent before it, and the refusal is the least that stands at it: it has
+-- none of the forms; or with what it sends, the budgets are too large together, or else there are too many items, or
+-- else too many clients.
+abbrev pub IsFaulty : Prefixes → List (List ℕ × Item) → List ℕ → ℕ → Refusal → Type 0
+IsFaulty prefixes before line number (BadLine at) =
+    (at ≡ number) × ((given : Option (List ℕ × Item)) → IsLine prefixes line given → ⊥)
+IsFaulty prefixes before line number (BudgetTooLarge at) =
+    (at ≡ number) × (one : List ℕ × Item) × IsLine prefixes line (Some one)
+    × (MOST_BUDGETS < budget_sum (before ++ one ∷ []))
+IsFaulty prefixes before line number (TooManyItems at) =
+    (at ≡ number) × (one : List ℕ × Item) × IsLine prefixes line (Some one)
+    × (budget_sum (before ++ one ∷ []) ≤ MOST_BUDGETS) × (MOST_ITEMS < length (before ++ one ∷ []))
+IsFaulty prefixes before line number (TooManyClients at) =
+    (at ≡ number) × (one : List ℕ × Item) × IsLine prefixes line (Some one)
+    × (budget_sum (before ++ one ∷ []) ≤ MOST_BUDGETS) × (length (before ++ one ∷ []) ≤ MOST_ITEMS)
+    × (MOST_CLIENTS < length (names_of (before ++ one ∷ [])))
+IsFaulty prefixes before line number _ = ⊥
 
-pub record IsFirstFormJob (bytes : List ℕ) (job : Job) : Type 0 where
+-- Lines, of which the first has this number, are no script: a line is faulty, and those before it are a script.
+pub record IsScriptRefusal (prefixes : Prefixes) (lines : List (List ℕ)) (first : ℕ) (refusal : Refusal) : Type 0 where
+  pub before : List (List ℕ)
+  pub line : List ℕ
+  pub behind : List (List ℕ)
+  pub cut : lines ≡ before ++ line ∷ behind
+  pub given : List (Option (List ℕ × Item))
+  pub lines_are : AreLines prefixes before given
+  pub within : IsWithinLimits (sent_by given)
+  pub faulty : IsFaulty prefixes (sent_by given) line (first + length before) refusal
+
+-- an input that isn't too long and is UTF-8
+pub record IsText (bytes : List ℕ) : Type 0 where
   pub short : length bytes ≤ MOST_INPUT_BYTES
-  pub ascii : list_all is_ascii bytes ≡ true
-  pub document : IsDocument (document_text bytes) job.doc
-  pub script : IsScript (script_lines bytes) job.names job.items
+  pub utf8 : IsUtf8 bytes
 
--- an input is refused as too long above the limit, and else as left out where it is no job of the first form
+-- the input's document, with its prefixes
+pub record HasDocument (bytes : List ℕ) (doc : Doc) (prefixes : Prefixes) : Type 0 where
+  pub tokens : List Token
+  pub lexed : lexed (document_text bytes) ≡ Ok tokens
+  pub read : IsRead tokens (document_text bytes) doc prefixes
+
+pub record IsJob (bytes : List ℕ) (job : Job) : Type 0 where
+  pub text : IsText bytes
+  pub prefixes : Prefixes
+  pub document : HasDocument bytes job.doc prefixes
+  pub script : IsScript prefixes (script_lines bytes) job.names job.items
+
+-- the tokens of the input's document have this refusal
+pub record HasDocumentRefusal (bytes : List ℕ) (refusal : Refusal) : Type 0 where
+  pub tokens : List Token
+  pub lexed : lexed (document_text bytes) ≡ Ok tokens
+  pub refused : IsDocumentRefused tokens (document_text bytes) refusal
+
+-- it has a document, and its script has this refusal
+pub record HasScriptRefusal (bytes : List ℕ) (refusal : Refusal) : Type 0 where
+  pub doc : Doc
+  pub prefixes : Prefixes
+  pub document : HasDocument bytes doc prefixes
+  pub refused : IsScriptRefusal prefixes (script_lines bytes) (first_script_line bytes) refusal
+
+-- In this order: the input is too long; it isn't UTF-8; its document has a token that can't be read; the document's
+-- tokens are refused; the script is.
 abbrev pub IsRefused : List ℕ → Refusal → Type 0
 IsRefused bytes refusal =
     ((refusal ≡ InputTooLong) × (MOST_INPUT_BYTES < length bytes))
-    ⊎ ((refusal ≡ LeftOut 1 1) × (length bytes ≤ MOST_INPUT_BYTES) × ((job : Job) → IsFirstFormJob bytes job → ⊥))
+    ⊎ (((at : ℕ) × (refusal ≡ NotUtf8 at) × (length bytes ≤ MOST_INPUT_BYTES) × IsValidUpTo bytes at)
+    ⊎ (IsText bytes × ((lexed (document_text bytes) ≡ Err refusal)
+    ⊎ (HasDocumentRefusal bytes refusal ⊎ HasScriptRefusal bytes refusal))))
 
 -- a call that gives no job has no memory, or tells the refusal
 abbrev pub RefusesJob : List ℕ → Fault → Type 0
 RefusesJob bytes OutOfMemory = Unit {0}
 RefusesJob bytes (Refused refusal) = IsRefused bytes refusal
 
--- Law: an input is one job at most.
-abbrev pub OneJob : Type 0
-OneJob = (bytes : List ℕ) (a b : Job) → IsFirstFormJob bytes a → IsFirstFormJob bytes b → a ≡ b
+-- Law: an input is one job at most, has one refusal at most, and not both.
+pub record OneOutcome : Type 0 where
+  pub one_job : (bytes : List ℕ) (a b : Job) → IsJob bytes a → IsJob bytes b → a ≡ b
+  pub one_refusal : (bytes : List ℕ) (a b : Refusal) → IsRefused bytes a → IsRefused bytes b → a ≡ b
+  pub not_both : (bytes : List ℕ) (job : Job) (refusal : Refusal) → IsJob bytes job → IsRefused bytes refusal → ⊥

@@ -5,8 +5,14 @@ pub mod InMemory
 pub mod JobParts
 pub mod Jobs
 pub mod Lines
+pub mod ReadingItems
 pub mod ReadingLines
 pub mod RefusalLine
+pub mod ScriptSteps
+pub mod SentLeaves
+pub mod SentLines
+pub mod Simple
 pub mod Standard
+pub mod TokensOf
 pub mod Trace
 pub mod TraceLaws

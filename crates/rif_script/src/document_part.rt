@@ -1,5 +1,5 @@
 ghost use Rattle.std.specs.Prelude.{◌≡◌, ℕ, drop, take};
-ghost use Rattle.rif_script.specs.Jobs.{document_text, is_separator, lines_of, script_lines};
+ghost use Rattle.rif_script.specs.Jobs.{document_text, first_script_line, is_separator, lines_of, script_lines};
 ghost use Rattle.rif_script.specs.ReadingLines.{line_length};
 
 /// The document of a job, and its script. Without a line `%%` the script is empty.
@@ -7,6 +7,8 @@ ghost use Rattle.rif_script.specs.ReadingLines.{line_length};
 pub struct Parts<'a> {
     pub document: &'a [u8],
     pub script: &'a [u8],
+    /// The number of the script's first line, counted from 1 over the whole job.
+    pub first_line: u64,
 }
 
 /// The parts of a job: the document is what stands before the first line that is exactly `%%`, which one
@@ -16,22 +18,27 @@ pub struct Parts<'a> {
 pub fn parts_of(bytes: &[u8]) -> Parts<'_>
     ensures document { result.document.now ≡ document_text bytes.now }
     ensures script { lines_of result.script.now ≡ script_lines bytes.now }
+    ensures first { result.first_line ≡ first_script_line bytes.now }
     ensures last { (from : ℕ) × (result.script.now ≡ drop from bytes.now) }
 {
     let mut at = 0;
+    let mut lines = 0u64;
     while at < bytes.len() {
         let (line, behind) = first_line(&bytes[at..]);
         if is_separator(line) {
             return Parts {
                 document: &bytes[..at],
                 script: behind,
+                first_line: lines + 2,
             };
         }
         at += line.len();
+        lines += 1;
     }
     Parts {
         document: bytes,
         script: &bytes[at..],
+        first_line: lines + 2,
     }
 }
 
@@ -62,4 +69,14 @@ fn line_length(text: &[u8]) -> usize
         at += 1;
     }
     if at < text.len() { at + 1 } else { at }
+}
+
+/// The document of a job: what stands before the first line that is exactly `%%`, which one carriage return
+/// may end, and all of it where there is none. It takes no memory; the cost is the document's length.
+///
+/// Source: our own (docs/FORMATS.md, "Jobs").
+pub fn doc_part(bytes: &[u8]) -> &[u8]
+    ensures { result.now ≡ document_text bytes.now }
+{
+    parts_of(bytes).document
 }

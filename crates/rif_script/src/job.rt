@@ -1,13 +1,12 @@
-ghost use Rattle.std.specs.Prelude.{◌≡◌, ◌≤◌, IfErr, IfOk, length};
-ghost use Rattle.std.specs.Str.{IsAscii};
+ghost use Rattle.std.specs.Prelude.{IfErr, IfOk};
 ghost use Rattle.rif_script.specs.Cutting.{HasItsClients};
-ghost use Rattle.rif_script.specs.JobParts.{RefusesDocument};
-ghost use Rattle.rif_script.specs.Jobs.{IsDocument, IsFirstFormJob, RefusesJob};
+ghost use Rattle.rif_script.specs.JobParts.{IsDocumentText, RefusesText};
+ghost use Rattle.rif_script.specs.Jobs.{IsJob, IsText, RefusesJob};
 
 use crate::document_part::parts_of;
 use crate::script::{Script, read_script};
-use crate::tokens_read::read_tokens;
-use prd_reader::{are_ascii, left_out, read_doc};
+use prd_reader::{Prefixes, read_parts};
+use rif_lex::tokens;
 use rif_terms::limits::MOST_INPUT_BYTES;
 use rif_terms::{Doc, Fault, Listed, Refusal, Text};
 use session_states::Item;
@@ -24,33 +23,47 @@ pub struct Job {
     pub items: Listed<(u32, Item)>,
 }
 
-/// The job that the bytes are. Above 4,194,304 bytes it is refused as too long, and where it isn't of the
-/// first form as left out, at line 1, column 1. The cost is the bytes' length.
+/// The job that the bytes are, or the first refusal that stands: 1 and 2 of the whole input, 3 to 13 of its
+/// document, and then 17 to 20 of its script, each exactly at its place.
 ///
-/// Source: our own (docs/FORMATS.md, "Jobs" and "The first form").
+/// The cost is linear in the bytes; beside the job, memory is taken for the tokens of the document, and for
+/// those of one line of the script.
+///
+/// Source: our own (docs/FORMATS.md, "Jobs" and "Refusals").
 pub fn read_job(alloc: Global, bytes: &[u8]) -> Result<Job, Fault>
+    ensures read { IfOk result (IsJob bytes.now) }
     ensures clients { IfOk result HasItsClients }
-    ensures read { IfOk result (IsFirstFormJob bytes.now) }
+    ensures refused { IfErr result (RefusesJob bytes.now) }
+{
+    is_text(bytes)?;
+    let parts = parts_of(bytes);
+    let (doc, prefixes) = read_document(alloc, parts.document)?;
+    let script = read_script(alloc, &prefixes, parts.script, parts.first_line)?;
+    let Script { names, items, .. } = script;
+    Ok(Job { doc, names, items })
+}
+
+// Whether the bytes aren't too many and are UTF-8, or the refusal that says which of the two they aren't.
+#[tactic(auto, using(crate::proofs::JobLemmas::long_refused, crate::proofs::JobLemmas::broken_refused))]
+fn is_text(bytes: &[u8]) -> Result<(), Fault>
+    ensures text { IfOk result (λ done. IsText bytes.now) }
     ensures refused { IfErr result (RefusesJob bytes.now) }
 {
     if bytes.len() > MOST_INPUT_BYTES {
         return Err(Fault::Refused(Refusal::InputTooLong));
     }
-    if !are_ascii(bytes) {
-        return Err(left_out());
+    if let Err(broken) = str::from_utf8(bytes) {
+        let at = broken.valid_up_to() as u64;
+        return Err(Fault::Refused(Refusal::NotUtf8 { at }));
     }
-    let parts = parts_of(bytes);
-    let doc = read_document(alloc, parts.document)?;
-    let script = read_script(alloc, parts.script)?;
-    let Script { names, items, .. } = script;
-    Ok(Job { doc, names, items })
+    Ok(())
 }
 
-// The document that the bytes are.
-fn read_document(alloc: Global, bytes: &[u8]) -> Result<Doc, Fault>
-    ensures read { IfOk result (IsDocument bytes.now) }
-    ensures refused { IfErr result (RefusesDocument bytes.now) }
+// The document that a text is, with its prefixes.
+fn read_document(alloc: Global, text: &[u8]) -> Result<(Doc, Prefixes), Fault>
+    ensures read { IfOk result (λ parts. IsDocumentText text.now parts.0 parts.1) }
+    ensures refused { IfErr result (RefusesText text.now) }
 {
-    let found = read_tokens(alloc, bytes)?;
-    read_doc(alloc, &found, bytes)
+    let found = tokens(alloc, text)?;
+    read_parts(alloc, &found, text)
 }

@@ -1,12 +1,7 @@
 //! Laws of the definitions: functions without parameters, whose bodies are empty.
 ghost use Rattle.rif_script.specs.CuttingLaws.{CutEndsBatches, CutIsLawful, CutKeepsAll, EntriesFollowScripts};
-ghost use Rattle.rif_script.specs.Jobs.{OneJob};
+ghost use Rattle.rif_script.specs.Jobs.{OneOutcome};
 ghost use Rattle.rif_script.specs.TraceLaws.{SameTextSameRun};
-
-/// Law: an input is one job of the first form at most.
-pub fn one_job()
-    ensures { OneJob }
-{}
 
 /// Law: the batches of a script joined, and then what is left, are all its entries in order.
 pub fn cut_keeps_all()
@@ -33,4 +28,9 @@ pub fn entries_follow_scripts()
 /// their scripts.
 pub fn same_text_same_run()
     ensures { SameTextSameRun }
+{}
+
+/// Law: an input is one job at most, has one refusal at most, and not both.
+pub fn one_outcome()
+    ensures { OneOutcome }
 {}

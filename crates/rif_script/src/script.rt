@@ -1,15 +1,18 @@
-ghost use Rattle.std.specs.Prelude.{◌≡◌, length};
-ghost use Rattle.std.specs.Str.{IsAscii};
-ghost use Rattle.prd_reader.specs.Reading.{Gives};
+//! A script: the clients and the items that its lines give.
+ghost use Rattle.std.specs.Prelude.{◌≡◌, ◌<◌, ◌≤◌, ◌^◌, ◌+◌, ◌++◌, ◌∷◌, [], IfOk, IsUtf8, length};
+ghost use Rattle.rif_terms.specs.declared.limits.TheConstants.{MOST_CLIENTS};
+ghost use Rattle.rif_lex.specs.Lexing.{Answers};
 ghost use Rattle.prd_reader.specs.Values.{place_of};
 ghost use Rattle.rif_script.specs.Jobs.{budget_of, lines_of};
-ghost use Rattle.rif_script.specs.ReadingLines.{budgets_with, client_with, items_with, no_lines, with_line, with_lines, with_sent};
+ghost use Rattle.rif_script.specs.ReadingLines.{no_lines, with_lines};
+ghost use Rattle.rif_script.specs.ScriptSteps.{budgets_with, client_with};
 
 use crate::document_part::first_line;
 use crate::script_line::{Line, read_line};
-use prd_reader::left_out;
+use prd_reader::Prefixes;
+use rif_lex::Token;
 use rif_terms::limits::{MOST_BUDGETS, MOST_CLIENTS, MOST_ITEMS};
-use rif_terms::{Fault, Listed, Text};
+use rif_terms::{Fault, Listed, OutOfMemory, Refusal, Text};
 use session_states::Item;
 use std::alloc::Global;
 
@@ -22,56 +25,103 @@ pub struct Script {
     pub budgets: u64,
 }
 
-/// The script of these bytes. The cost is their length.
+/// The script of a text whose first line has this number, or the refusal of its first faulty line. The
+/// cost is the text's length; for a line memory is taken for its item and a new client's name, and the room
+/// for its tokens is used again.
 ///
 /// Source: our own (docs/FORMATS.md, "Jobs").
-pub fn read_script(alloc: Global, bytes: &[u8]) -> Result<Script, Fault>
-    requires { IsAscii bytes.now }
-    ensures { Gives (λ script. script) result (with_lines no_lines (lines_of bytes.now)) }
+pub fn read_script(
+    alloc: Global,
+    prefixes: &Prefixes,
+    text: &[u8],
+    first: u64,
+) -> Result<Script, Fault>
+    requires { first + length text.now < 2 ^ 64 }
+    ensures { Answers result (with_lines prefixes.now first no_lines (lines_of text.now)) }
 {
     let mut script = Script {
         names: Listed::new(alloc),
         items: Listed::new(alloc),
         budgets: 0,
     };
-    let mut rest = bytes;
+    let mut found = Vec::new(alloc);
+    let mut number = first;
+    let mut rest = text;
     while !rest.is_empty() {
         let (line, behind) = first_line(rest);
-        script = script.with_line(alloc, line)?;
+        script = script.with_line(alloc, &mut found, prefixes, line, number)?;
+        number += 1;
         rest = behind;
     }
     Ok(script)
 }
 
 impl Script {
-    ghost use Rattle.std.specs.Str.{IsAscii};
-    ghost use Rattle.prd_reader.specs.Reading.{Gives};
+    ghost use Rattle.std.specs.Prelude.{◌≤◌, IfOk, IsUtf8, length};
+    ghost use Rattle.rif_terms.specs.declared.limits.TheConstants.{MOST_CLIENTS};
+    ghost use Rattle.rif_lex.specs.Lexing.{Answers};
     ghost use Rattle.rif_script.specs.ReadingLines.{with_line, with_sent};
+    ghost use Rattle.rif_script.specs.ScriptSteps.{room_for, with_room};
 
-    // The script with what a line gives.
+    // The script with the line of this number.
     #[tactic(auto, unfolding(crate::specs::ReadingLines::with_line))]
-    fn with_line(self, alloc: Global, line: &[u8]) -> Result<Script, Fault>
-        requires { IsAscii line.now }
-        ensures { Gives (λ script. script) result (with_line self line.now) }
+    fn with_line(
+        self,
+        alloc: Global,
+        found: &mut Vec<Token>,
+        prefixes: &Prefixes,
+        line: &[u8],
+        number: u64,
+    ) -> Result<Script, Fault>
+        requires { length self.names ≤ MOST_CLIENTS }
+        ensures is { Answers result (with_line prefixes.now number self line.now) }
+        ensures few { IfOk result (λ script. length script.names ≤ MOST_CLIENTS) }
     {
-        match read_line(alloc, line)? {
-            Line::Skipped => Ok(self),
-            Line::Sent(name, item) => self.with_sent(name, item),
+        match read_line(alloc, found, prefixes, line)? {
+            None => Err(Fault::Refused(Refusal::BadLine { line: number })),
+            Some(Line::Skipped) => Ok(self),
+            Some(Line::Sent(name, item)) => self.with_sent(alloc, name, item, number),
         }
     }
 
-    // The script with a client's item.
-    #[tactic(auto, unfolding(crate::specs::ReadingLines::with_sent))]
-    fn with_sent(self, name: Text, item: Item) -> Result<Script, Fault>
-        ensures { Gives (λ script. script) result (with_sent self name item) }
+    // The script with a client's item, which the line of this number sends.
+    fn with_sent(self, alloc: Global, name: &[u8], item: Item, number: u64) -> Result<Script, Fault>
+        requires utf8 { IsUtf8 name.now }
+        requires few { length self.names ≤ MOST_CLIENTS }
+        ensures is { Answers result (with_sent number self (name.now, item)) }
+        ensures few { IfOk result (λ script. length script.names ≤ MOST_CLIENTS) }
     {
-        let Script {
-            names,
-            items,
-            budgets,
-        } = self;
-        let (client, names) = client_with(names, name)?;
-        let budgets = budgets_with(budgets, budget_of(&item))?;
+        let budgets = self.room_for(&item, number)?;
+        self.with_room(alloc, name, item, budgets, number)
+    }
+
+    // The sum of the budgets with an item, where there is room for it.
+    fn room_for(&self, item: &Item, number: u64) -> Result<u64, Fault>
+        ensures { Answers result (room_for number self.now item.now) }
+    {
+        let budgets = budgets_with(self.budgets, item, number)?;
+        if self.items.len() as u64 >= MOST_ITEMS {
+            return Err(Fault::Refused(Refusal::TooManyItems { line: number }));
+        }
+        Ok(budgets)
+    }
+
+    // The script with a client's item that there is room for, and this sum of budgets.
+    fn with_room(
+        self,
+        alloc: Global,
+        name: &[u8],
+        item: Item,
+        budgets: u64,
+        number: u64,
+    ) -> Result<Script, Fault>
+        requires utf8 { IsUtf8 name.now }
+        requires few { length self.names ≤ MOST_CLIENTS }
+        ensures is { Answers result (with_room number self (name.now, item) budgets) }
+        ensures few { IfOk result (λ script. length script.names ≤ MOST_CLIENTS) }
+    {
+        let Script { names, items, .. } = self;
+        let (client, names) = client_with(alloc, names, name, number)?;
         let items = items_with(items, client, item)?;
         Ok(Script {
             names,
@@ -81,46 +131,49 @@ impl Script {
     }
 }
 
-// The number of the client of the name, that of its first line or the next one, and the names with it.
-#[tactic(auto, unfolding(crate::specs::ReadingLines::client_with))]
-fn client_with(mut names: Listed<Text>, name: Text) -> Result<(u32, Listed<Text>), Fault>
-    ensures { Gives (λ found. found) result (client_with names name) }
-{
-    let place = place_of(names.as_slice(), name.bytes());
-    if place as u64 >= MOST_CLIENTS {
-        return Err(left_out());
-    }
-    if place == names.len() {
-        names.push(name)?;
-    }
-    Ok((place as u32, names))
-}
-
-// The sum of the budgets with one more.
-#[tactic(auto, unfolding(crate::specs::ReadingLines::budgets_with))]
-fn budgets_with(before: u64, more: u64) -> Result<u64, Fault>
-    ensures { Gives (λ sum. sum) result (budgets_with before more) }
-{
-    match before.checked_add(more) {
-        Some(sum) if sum <= MOST_BUDGETS => Ok(sum),
-        _ => Err(left_out()),
-    }
-}
-
 // The items with one more, of the client of the number.
-#[tactic(auto, unfolding(crate::specs::ReadingLines::items_with))]
 fn items_with(
     mut items: Listed<(u32, Item)>,
     client: u32,
     item: Item,
-) -> Result<Listed<(u32, Item)>, Fault>
-    ensures { Gives (λ items. items) result (items_with items client item) }
+) -> Result<Listed<(u32, Item)>, OutOfMemory>
+    ensures { IfOk result (λ more. more ≡ items ++ (client, item) ∷ []) }
 {
-    if items.len() as u64 >= MOST_ITEMS {
-        return Err(left_out());
-    }
     items.push((client, item))?;
     Ok(items)
+}
+
+// The sum of the budgets with that of an item, which the line of this number sends.
+fn budgets_with(before: u64, item: &Item, number: u64) -> Result<u64, Fault>
+    ensures { Answers result (budgets_with number (before + budget_of item.now)) }
+{
+    match before.checked_add(budget_of(item)) {
+        Some(sum) if sum <= MOST_BUDGETS => Ok(sum),
+        _ => Err(Fault::Refused(Refusal::BudgetTooLarge { line: number })),
+    }
+}
+
+// The number of the client of this name, that of its first line or the next one, and the names with it.
+fn client_with(
+    alloc: Global,
+    mut names: Listed<Text>,
+    name: &[u8],
+    number: u64,
+) -> Result<(u32, Listed<Text>), Fault>
+    requires utf8 { IsUtf8 name.now }
+    requires few { length names ≤ MOST_CLIENTS }
+    ensures is { Answers result (client_with number names name.now) }
+    ensures few { IfOk result (λ found. length found.1 ≤ MOST_CLIENTS) }
+{
+    let place = place_of(names.as_slice(), name);
+    if place < names.len() {
+        return Ok((place as u32, names));
+    }
+    if place as u64 >= MOST_CLIENTS {
+        return Err(Fault::Refused(Refusal::TooManyClients { line: number }));
+    }
+    names.push(Text::from_bytes(alloc, name)?)?;
+    Ok((place as u32, names))
 }
 
 // An item's budget, and 0 where it has none.
@@ -135,7 +188,8 @@ fn budget_of(item: &Item) -> u64
 
 // The place of a name among some, counted from 0, or their number where it isn't one of them.
 fn place_of(names: &[Text], name: &[u8]) -> usize
-    ensures { result ≡ place_of names.now name.now }
+    ensures is { result ≡ place_of names.now name.now }
+    ensures within { result ≤ length names.now }
 {
     let mut place = 0;
     while place < names.len() && names[place].bytes() != name {

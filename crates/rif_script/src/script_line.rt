@@ -1,43 +1,67 @@
-ghost use Rattle.std.specs.Prelude.{◌≡◌};
+ghost use Rattle.std.specs.Prelude.{◌≡◌, IfOk, IfSome, IsUtf8, Ok, map, option_map};
 ghost use Rattle.std.specs.List.{list_all};
-ghost use Rattle.std.specs.Str.{IsAscii};
-ghost use Rattle.prd_reader.specs.Reading.{Gives, seen};
-ghost use Rattle.rif_script.specs.Jobs.{is_comment, is_client_name, is_client_character};
-ghost use Rattle.rif_script.specs.ReadingLines.{firing_at, firing_of, given_by, item_at, leaves_in, line_at, line_view, name_at, sent_at};
+ghost use Rattle.rif_lex.specs.Lexing.{lexed};
+ghost use Rattle.rif_lex.specs.Spelling.{written};
+ghost use Rattle.rif_script.specs.Jobs.{is_client_character, is_client_name, is_comment};
+ghost use Rattle.rif_script.specs.ReadingItems.{given_from, name_of, sent_from, word_text};
+ghost use Rattle.rif_script.specs.ReadingLines.{line_at};
+ghost use Rattle.rif_script.specs.SentLeaves.{Gives};
+ghost use Rattle.rif_script.specs.SentLines.{Finds, HasText, line_view};
 
-use crate::tokens_read::read_tokens;
-use prd_reader::{Leaves, are_spaced, left_out, read_fact, read_number};
-use rif_lex::Kind;
+use crate::items::read_item;
+use crate::line_fault::LineFault;
+use crate::sent_tokens::SentTokens;
+use prd_reader::Prefixes;
+use rif_lex::{Kind, Token, tokens_into};
 use rif_terms::limits::MOST_NAME_CHARACTERS;
-use rif_terms::{Change, Fault, Integer, Text};
+use rif_terms::{Fault, OutOfMemory};
 use session_states::Item;
 use std::alloc::Global;
 
 /// What a line of a script is.
 #[derive(Drop)]
-pub enum Line {
+pub enum Line<'a> {
     /// White space, or a comment.
     Skipped,
-    /// A client's name, and the item that it sends.
-    Sent(Text, Item),
+    /// A client's name as it stands in the line, and the item that it sends.
+    Sent(&'a [u8], Item),
 }
 
-/// What a line of ASCII is, with or without its line feed. The cost is its length.
+/// What a line is, with or without its line feed, or nothing where it has none of the forms. Its tokens
+/// are put into the list, whose room is used again. The cost is the line's length.
 ///
 /// Source: our own (docs/FORMATS.md, "Jobs").
-#[tactic(auto, unfolding(crate::specs::ReadingLines::line_at, crate::specs::ReadingLines::leaves_in))]
-pub fn read_line(alloc: Global, line: &[u8]) -> Result<Line, Fault>
-    requires { IsAscii line.now }
-    ensures { Gives line_view result (line_at line.now) }
+pub fn read_line<'a>(
+    alloc: Global,
+    found: &mut Vec<Token>,
+    prefixes: &Prefixes,
+    line: &'a [u8],
+) -> Result<Option<Line<'a>>, OutOfMemory>
+    ensures is { IfOk result (λ given. option_map line_view given ≡ line_at prefixes.now line.now) }
+    ensures text { IfOk result (λ given. IfSome given HasText) }
+{
+    match line_in(alloc, found, prefixes, line) {
+        Ok(given) => Ok(Some(given)),
+        Err(LineFault::Bad) => Ok(None),
+        Err(LineFault::OutOfMemory) => Err(OutOfMemory),
+    }
+}
+
+#[tactic(auto, unfolding(crate::specs::ReadingLines::line_at))]
+fn line_in<'a>(
+    alloc: Global,
+    found: &mut Vec<Token>,
+    prefixes: &Prefixes,
+    line: &'a [u8],
+) -> Result<Line<'a>, LineFault>
+    ensures is { Gives line_view result (line_at prefixes.now line.now) }
+    ensures text { IfOk result HasText }
 {
     if is_comment(line) {
         return Ok(Line::Skipped);
     }
-    let found = read_tokens(alloc, line)?;
-    if !are_spaced(found.as_slice(), line) {
-        return Err(left_out());
-    }
-    read_leaves(alloc, Leaves::new(found.as_slice(), line))
+    find_tokens(found, line)?;
+    line_of(alloc, prefixes, line, found.as_slice())
 }
 
 fn is_comment(line: &[u8]) -> bool
@@ -49,39 +73,67 @@ fn is_comment(line: &[u8]) -> bool
     }
 }
 
-// What the leaves of a line are.
-fn read_leaves(alloc: Global, at: Leaves<'_>) -> Result<Line, Fault>
-    ensures { Gives line_view result (given_by (seen at.entry)) }
+// Puts the tokens of a line into the list, if it has tokens.
+fn find_tokens(found: &mut Vec<Token>, line: &[u8]) -> Result<(), LineFault>
+    ensures { Finds result found.new.items (lexed line.now) }
 {
-    if at.is_empty() {
+    match tokens_into(found, line) {
+        Ok(()) => Ok(()),
+        Err(Fault::Refused(_)) => Err(LineFault::Bad),
+        Err(Fault::OutOfMemory) => Err(LineFault::OutOfMemory),
+    }
+}
+
+// What the tokens of a line are.
+fn line_of<'a>(
+    alloc: Global,
+    prefixes: &Prefixes,
+    line: &'a [u8],
+    tokens: &[Token],
+) -> Result<Line<'a>, LineFault>
+    requires { lexed line.now ≡ Ok tokens.now }
+    ensures is { Gives line_view result (given_from prefixes.now (map (written line.now) tokens.now)) }
+    ensures text { IfOk result HasText }
+{
+    if tokens.is_empty() {
         return Ok(Line::Skipped);
     }
-    let (name, item) = read_sent(alloc, at)?;
+    let (name, item) = read_sent(alloc, prefixes, line, tokens)?;
     Ok(Line::Sent(name, item))
 }
 
 // A client's name, and the item that it sends.
-#[tactic(auto, unfolding(crate::specs::ReadingLines::sent_at))]
-fn read_sent(alloc: Global, at: Leaves<'_>) -> Result<(Text, Item), Fault>
-    ensures { Gives (λ sent. sent) result (sent_at (seen at.entry)) }
+#[tactic(auto, unfolding(crate::specs::ReadingItems::sent_from))]
+fn read_sent<'a>(
+    alloc: Global,
+    prefixes: &Prefixes,
+    line: &'a [u8],
+    tokens: &[Token],
+) -> Result<(&'a [u8], Item), LineFault>
+    requires { lexed line.now ≡ Ok tokens.now }
+    ensures is { Gives (λ sent. (sent.0.now, sent.1)) result (sent_from prefixes.now (map (written line.now) tokens.now)) }
+    ensures text { IfOk result (λ sent. IsUtf8 sent.0.now) }
 {
-    let name = read_name(alloc, at)?;
-    let item = read_item(alloc, at.rest())?;
+    if tokens.len() < 2 {
+        return Err(LineFault::Bad);
+    }
+    let name = name_of(line, tokens[0])?;
+    let word = word_text(line, tokens[1])?;
+    let item = read_item(alloc, word, SentTokens::new(prefixes, line, tokens, 2))?;
     Ok((name, item))
 }
 
-// The client's name at the front: a word of 1 to 16 lowercase letters, digits and underscores.
-#[tactic(auto, unfolding(crate::specs::ReadingLines::name_at))]
-fn read_name(alloc: Global, at: Leaves<'_>) -> Result<Text, Fault>
-    ensures { Gives (λ name. name) result (name_at (seen at.entry)) }
+// The client's name that a token is: a word of lowercase letters, digits and underscores.
+#[tactic(auto, unfolding(crate::specs::ReadingItems::name_of))]
+fn name_of(line: &[u8], token: Token) -> Result<&[u8], LineFault>
+    ensures is { Gives (λ name. name.now) result (name_of (written line.now token)) }
+    ensures text { IfOk result (λ name. IsUtf8 name.now) }
 {
-    let Some((Kind::Word, text)) = at.first() else {
-        return Err(left_out());
-    };
+    let text = word_text(line, token)?;
     if !is_client_name(text) {
-        return Err(left_out());
+        return Err(LineFault::Bad);
     }
-    Ok(Text::from_bytes(alloc, text)?)
+    Ok(text)
 }
 
 fn is_client_name(text: &[u8]) -> bool
@@ -102,34 +154,21 @@ fn is_client_character(byte: u8) -> bool
     matches!(byte, b'a'..=b'z' | b'0'..=b'9' | b'_')
 }
 
-// The item that the leaves are, all of them.
-#[tactic(auto, unfolding(crate::specs::ReadingLines::item_at))]
-fn read_item(alloc: Global, at: Leaves<'_>) -> Result<Item, Fault>
-    ensures { Gives (λ item. item) result (item_at (seen at.entry)) }
+// The text of a word.
+fn word_text(line: &[u8], token: Token) -> Result<&[u8], LineFault>
+    ensures { Gives (λ text. text.now) result (word_text (written line.now token)) }
 {
-    if at.begins_word(b"assert") {
-        return Ok(Item::Change(Change::Assert(read_fact(alloc, at.rest())?)));
+    match token.kind {
+        Kind::Word => Ok(slice_of(line, token)),
+        _ => Err(LineFault::Bad),
     }
-    if at.begins_word(b"retract") {
-        return Ok(Item::Change(Change::Retract(read_fact(alloc, at.rest())?)));
-    }
-    read_firing(at)
 }
 
-// The item `fire` with its budget.
-#[tactic(auto, unfolding(crate::specs::ReadingLines::firing_at))]
-fn read_firing(at: Leaves<'_>) -> Result<Item, Fault>
-    ensures { Gives (λ item. item) result (firing_at (seen at.entry)) }
+// The token's span of the line, as far as the line has it.
+fn slice_of(line: &[u8], token: Token) -> &[u8]
+    ensures { result.now ≡ (written line.now token).text }
 {
-    let at = at.past_word(b"fire")?;
-    firing_of(read_number(at)?)
-}
-
-fn firing_of(budget: Integer) -> Result<Item, Fault>
-    ensures { Gives (λ item. item) result (firing_of budget) }
-{
-    if budget < 0 {
-        return Err(left_out());
-    }
-    Ok(Item::Fire(budget as u64))
+    let start = token.start.min(line.len());
+    let end = token.end.min(line.len()).max(start);
+    &line[start..end]
 }

@@ -1,6 +1,5 @@
 //! Small runs with their whole text, and how scripts are cut.
 mod checks;
-mod jobs;
 mod runs;
 mod values;
 

@@ -1,34 +1,40 @@
-use super::{is_left_out, read};
-use rif_terms::{Doc, Formula};
+use super::read;
+use rif_terms::{Counted, Fault, Refusal};
 use std::alloc::{AllocError, Global};
-use std::process::Abort;
 use std::test::Fail;
 
-/// How many variables, patterns and actions a rule has.
-#[derive(Clone, Copy, Debug, PartialEq, Eq)]
+/// How many variables, patterns and actions a rule has, and how many brackets are open in its condition.
+#[derive(Clone, Copy)]
 struct Counts {
     names: usize,
     patterns: usize,
     actions: usize,
+    brackets: usize,
 }
 
 const MOST: Counts = Counts {
     names: 32,
     patterns: 32,
     actions: 32,
+    brackets: 64,
 };
 
-// A document of a rule with so many of each. The patterns go through the variables, two in each.
+// A document of a rule with so many of each. Three brackets stand round its condition, and an atom opens
+// one more.
 fn text_of(alloc: Global, counts: Counts) -> Result<String, AllocError> {
-    let last = counts.names.saturating_sub(1);
     let mut text = String::from_str(alloc, "Document(Group(Forall")?;
     for place in 0..counts.names {
         write!(text, " ?v{place}")?;
     }
     text.push_str(" (If And(")?;
+    for _ in 5..counts.brackets {
+        text.push_str("And(")?;
+    }
     for place in 0..counts.patterns {
-        let (one, next) = (place.min(last), (place + 1).min(last));
-        write!(text, " ?v{one}[{place}->?v{next}]")?;
+        write!(text, " _p({place})")?;
+    }
+    for _ in 5..counts.brackets {
+        text.push_str(")")?;
     }
     text.push_str(") Then Do(")?;
     for place in 0..counts.actions {
@@ -38,50 +44,63 @@ fn text_of(alloc: Global, counts: Counts) -> Result<String, AllocError> {
     Ok(text)
 }
 
-// How many the one rule of a document has of each, if its condition is an `And`.
-fn counts_in(doc: &Doc) -> Option<Counts> {
-    let [rule] = doc.rules.as_slice() else {
-        return None;
-    };
-    match &rule.condition {
-        Some(Formula::And(patterns)) => Some(Counts {
-            names: rule.names.len(),
-            patterns: patterns.len(),
-            actions: rule.actions.len(),
-        }),
+// A document of so many rules.
+fn rules(alloc: Global, count: usize) -> Result<String, AllocError> {
+    let mut text = String::from_str(alloc, "Document(Group(")?;
+    for _ in 0..count {
+        text.push_str("Do(Assert(_p()))")?;
+    }
+    text.push_str("))")?;
+    Ok(text)
+}
+
+// What a refused text has too many of: something that is counted, or brackets.
+fn too_many(alloc: Global, text: &str) -> Option<Option<Counted>> {
+    match read(alloc, text) {
+        Err(Fault::Refused(Refusal::TooMany { what, .. })) => Some(Some(what)),
+        Err(Fault::Refused(Refusal::TooDeep { .. })) => Some(None),
         _ => None,
     }
 }
 
-fn is_too_much(rt: &impl Abort, alloc: Global, counts: Counts) -> Result<(), Fail> {
-    let text = text_of(alloc, counts)?;
-    match read(alloc, text.as_str()) {
-        Ok(_) => panic!(rt; "{counts:?}"),
-        Err(fault) => assert!(rt; is_left_out(&fault), "{counts:?}"),
-    }
+#[test]
+fn each_limit_may_be_reached(rt: HostRuntime) -> Result<(), Fail> {
+    let alloc = rt.alloc();
+    assert!(rt; read(alloc, text_of(alloc, MOST)?.as_str()).is_ok());
+    assert!(rt; read(alloc, rules(alloc, 1024)?.as_str()).is_ok());
     Ok(())
 }
 
 #[test]
-fn a_rule_has_at_most_32_of_each(rt: HostRuntime) -> Result<(), Fail> {
-    let text = text_of(rt.alloc(), MOST)?;
-    let doc = read(rt.alloc(), text.as_str())?;
-    assert_eq!(rt; counts_in(&doc), Some(MOST));
-    is_too_much(&rt, rt.alloc(), Counts { names: 33, ..MOST })?;
-    is_too_much(
-        &rt,
-        rt.alloc(),
+fn no_limit_may_be_passed(rt: HostRuntime) -> Result<(), Fail> {
+    let alloc = rt.alloc();
+    let names = text_of(alloc, Counts { names: 33, ..MOST })?;
+    assert!(rt; too_many(alloc, names.as_str()) == Some(Some(Counted::Variables)));
+    let patterns = text_of(
+        alloc,
         Counts {
             patterns: 33,
             ..MOST
         },
     )?;
-    is_too_much(
-        &rt,
-        rt.alloc(),
+    assert!(rt; too_many(alloc, patterns.as_str()) == Some(Some(Counted::Patterns)));
+    let actions = text_of(
+        alloc,
         Counts {
             actions: 33,
             ..MOST
         },
-    )
+    )?;
+    assert!(rt; too_many(alloc, actions.as_str()) == Some(Some(Counted::Actions)));
+    let brackets = text_of(
+        alloc,
+        Counts {
+            brackets: 65,
+            ..MOST
+        },
+    )?;
+    assert!(rt; too_many(alloc, brackets.as_str()) == Some(None));
+    let rules = rules(alloc, 1025)?;
+    assert!(rt; too_many(alloc, rules.as_str()) == Some(Some(Counted::Rules)));
+    Ok(())
 }

@@ -1,197 +1,57 @@
-//! Documents and facts for the tests: written down without memory, and made of what was written.
-use rif_terms::{Action, Const, Doc, Fact, Formula, Level, OutOfMemory, Rule, Target, Term, Text};
-use sqlite_items::Items;
-use std::alloc::Global;
+use super::read;
+use crate::write_doc;
+use std::test::Fail;
 
-#[derive(Clone, Copy)]
-pub enum WrittenConst {
-    Int(i64),
-    Bool(bool),
-    Str(&'static str),
-    Local(&'static str),
-}
+/// A document, and its canonical text.
+static DOCUMENTS: &[(&str, &str)] = &[
+    ("Document()", "Document()\n"),
+    ("Document(Group 3())", "Document()\n"),
+    (
+        "Document(Prefix(ex <http://e/>) (* n *) Group 7 (Forall ?x (If ?x # ex:C Then Do(Assert(ex:p(?x))))))",
+        "Document(Group(\nGroup 7(Forall ?x (If ?x # <http://e/C> Then Do(Assert(<http://e/p>(?x)))))\n))\n",
+    ),
+    (
+        "Document(Group 3(Do(Assert(_p(\"05\"^^xs:integer)))))",
+        "Document(Group(\nGroup 3(Do(Assert(_p(5))))\n))\n",
+    ),
+    (
+        "Document(Group rif:forwardChaining 5 (Group (Do(Assert(_a()))) Group -7 (Do(Assert(_b()))) Do(Assert(_c()))))",
+        "Document(Group(\nGroup 5(Do(Assert(_a())))\nGroup -7(Do(Assert(_b())))\nGroup 5(Do(Assert(_c())))\n))\n",
+    ),
+    (
+        "Document(Prefix(e <http://e/>) Prefix(e <http://f/>) Group(Do(Assert(e:p(e: <x> \"a\\\"b\\n\"^^xs:string true \"0\"^^xs:boolean \"l\"^^rif:local \"i\"^^rif:iri -5)))))",
+        "Document(Group(\nGroup 0(Do(Assert(<http://f/p>(<http://f/> <x> \"a\\\"b\\n\" true false _l <i> -5))))\n))\n",
+    ),
+    (
+        "Document(Group(Forall ?x ?y such that And(?x # _C ?y # _C) Not(_p(?x)) (Forall ?z such that (?z = ?x) (If Or(INeg((_q(?y))) Exists ?w ?v (?w[_a->?v _b->5])) Then Do(Assert(_r(?x ?y ?z)))))))",
+        "Document(Group(\nGroup 0(Forall ?x ?y such that And(?x # _C ?y # _C) Not(_p(?x)) (Forall ?z such that ?z = ?x (If Or(Not(_q(?y)) Exists ?w ?v (?w[_a->?v _b->5])) Then Do(Assert(_r(?x ?y ?z))))))\n))\n",
+    ),
+    (
+        "Document(Group(If And() Then Do((?n New()) (?s ?n[_s->?s]) Assert(?n[_a->?s]) Retract(?n # _C) Retract(?n _a) Retract(?n) Modify(?n[_b->1 _c->External(func:numeric-add(1 External(func:string-length(\"x\"))))]))))",
+        "Document(Group(\nGroup 0(If And() Then Do((?n New()) (?s ?n[_s->?s]) Assert(?n[_a->?s]) Retract(?n # _C) Retract(?n _a) Retract(?n) Modify(?n[_b->1 _c->External(func:numeric-add(1 External(func:string-length(\"x\"))))])))\n))\n",
+    ),
+    (
+        "Document(Group(Forall ?x (If And(External(pred:numeric-less-than(?x 5)) External(func:not(true)) = ?x ?x = External(<http://www.w3.org/2007/rif-builtin-function#concat>(\"a\" \"b\"))) Then Do(Assert(\"p\"^^rif:local(?x))))))",
+        "Document(Group(\nGroup 0(Forall ?x (If And(External(pred:numeric-less-than(?x 5)) External(func:not(true)) = ?x ?x = External(func:concat(\"a\" \"b\"))) Then Do(Assert(_p(?x)))))\n))\n",
+    ),
+    (
+        "Document(Group(Do(Assert(_ä(\"€\")))))",
+        "Document(Group(\nGroup 0(Do(Assert(_ä(\"€\"))))\n))\n",
+    ),
+];
 
-#[derive(Clone, Copy)]
-pub enum WrittenTerm {
-    Is(WrittenConst),
-    /// A variable, by its place in the rule's names.
-    Var(u32),
-}
-
-#[derive(Clone, Copy)]
-pub enum WrittenStatement {
-    Member(WrittenTerm, WrittenTerm),
-    Frame(WrittenTerm, WrittenTerm, WrittenTerm),
-}
-
-#[derive(Clone, Copy)]
-pub enum WrittenFact {
-    Member(WrittenConst, WrittenConst),
-    Frame(WrittenConst, WrittenConst, WrittenConst),
-}
-
-#[derive(Clone, Copy)]
-pub enum WrittenCondition {
-    One(WrittenStatement),
-    And(&'static [WrittenStatement]),
-}
-
-#[derive(Clone, Copy)]
-pub enum WrittenAction {
-    Assert(WrittenStatement),
-    Retract(WrittenStatement),
-}
-
-#[derive(Clone, Copy)]
-pub struct WrittenRule {
-    pub names: &'static [&'static str],
-    pub condition: WrittenCondition,
-    pub actions: &'static [WrittenAction],
-}
-
-impl WrittenConst {
-    fn make(self, alloc: Global) -> Result<Const, OutOfMemory> {
-        match self {
-            WrittenConst::Int(number) => Ok(Const::Int(number)),
-            WrittenConst::Bool(truth) => Ok(Const::Bool(truth)),
-            WrittenConst::Str(text) => Ok(Const::Str(Text::from_str(alloc, text)?)),
-            WrittenConst::Local(name) => Ok(Const::Local(Text::from_str(alloc, name)?)),
-        }
+#[test]
+fn what_is_read_is_written_in_canonical_text(rt: HostRuntime) -> Result<(), Fail> {
+    let alloc = rt.alloc();
+    for (text, wanted) in DOCUMENTS {
+        let doc = read(alloc, text)?;
+        let mut written = Vec::new(alloc);
+        write_doc(alloc, &mut written, &doc)?;
+        assert_eq!(rt; written.as_slice(), wanted.as_bytes(), "{text}");
+        let again = read(alloc, wanted)?;
+        let mut rewritten = Vec::new(alloc);
+        write_doc(alloc, &mut rewritten, &again)?;
+        assert_eq!(rt; rewritten.as_slice(), wanted.as_bytes(), "{text}");
     }
-}
-
-impl WrittenTerm {
-    fn make(self, alloc: Global) -> Result<Term, OutOfMemory> {
-        match self {
-            WrittenTerm::Is(constant) => Ok(Term::Const(constant.make(alloc)?)),
-            WrittenTerm::Var(place) => Ok(Term::Var(place)),
-        }
-    }
-}
-
-impl WrittenFact {
-    pub fn make(self, alloc: Global) -> Result<Fact, OutOfMemory> {
-        match self {
-            WrittenFact::Member(object, class) => {
-                Ok(Fact::Member(object.make(alloc)?, class.make(alloc)?))
-            }
-            WrittenFact::Frame(object, slot, value) => {
-                Ok(Fact::Frame(object.make(alloc)?, slot.make(alloc)?, value.make(alloc)?))
-            }
-        }
-    }
-}
-
-impl WrittenStatement {
-    fn formula(self, alloc: Global) -> Result<Formula, OutOfMemory> {
-        match self {
-            WrittenStatement::Member(object, class) => {
-                Ok(Formula::Member(object.make(alloc)?, class.make(alloc)?))
-            }
-            WrittenStatement::Frame(object, slot, value) => {
-                Ok(Formula::Frame(object.make(alloc)?, pair(alloc, slot, value)?))
-            }
-        }
-    }
-
-    fn target(self, alloc: Global) -> Result<Target, OutOfMemory> {
-        match self {
-            WrittenStatement::Member(object, class) => {
-                Ok(Target::Member(object.make(alloc)?, class.make(alloc)?))
-            }
-            WrittenStatement::Frame(object, slot, value) => {
-                Ok(Target::Frame(object.make(alloc)?, pair(alloc, slot, value)?))
-            }
-        }
-    }
-}
-
-fn pair(
-    alloc: Global,
-    slot: WrittenTerm,
-    value: WrittenTerm,
-) -> Result<Items<(Term, Term)>, OutOfMemory> {
-    let slot = slot.make(alloc)?;
-    let value = value.make(alloc)?;
-    Ok(Items::from_vec(vec![in alloc; (slot, value)]?))
-}
-
-impl WrittenCondition {
-    fn make(self, alloc: Global) -> Result<Formula, OutOfMemory> {
-        match self {
-            WrittenCondition::One(statement) => statement.formula(alloc),
-            WrittenCondition::And(statements) => Ok(Formula::And(formulas(alloc, statements)?)),
-        }
-    }
-}
-
-fn formulas(alloc: Global, statements: &[WrittenStatement]) -> Result<Items<Formula>, OutOfMemory> {
-    let mut made = Items::new(alloc);
-    for statement in statements {
-        made.push(statement.formula(alloc)?)?;
-    }
-    Ok(made)
-}
-
-impl WrittenAction {
-    fn make(self, alloc: Global) -> Result<Action, OutOfMemory> {
-        match self {
-            WrittenAction::Assert(statement) => Ok(Action::Assert(statement.target(alloc)?)),
-            WrittenAction::Retract(statement) => Ok(Action::Retract(statement.target(alloc)?)),
-        }
-    }
-}
-
-fn actions(alloc: Global, written: &[WrittenAction]) -> Result<Items<Action>, OutOfMemory> {
-    let mut made = Items::new(alloc);
-    for action in written {
-        made.push(action.make(alloc)?)?;
-    }
-    Ok(made)
-}
-
-impl WrittenRule {
-    fn make(self, alloc: Global) -> Result<Rule, OutOfMemory> {
-        let condition = self.condition.make(alloc)?;
-        Ok(Rule {
-            priority: 0,
-            names: texts(alloc, self.names)?,
-            levels: one_level(alloc, self.names)?,
-            condition: Some(condition),
-            decls: Items::new(alloc),
-            actions: actions(alloc, self.actions)?,
-        })
-    }
-}
-
-fn texts(alloc: Global, names: &[&str]) -> Result<Items<Text>, OutOfMemory> {
-    let mut made = Items::new(alloc);
-    for name in names {
-        made.push(Text::from_str(alloc, name)?)?;
-    }
-    Ok(made)
-}
-
-// The one level of a rule with these names: all of its variables, and nothing besides.
-fn one_level(alloc: Global, names: &[&str]) -> Result<Items<Level>, OutOfMemory> {
-    let mut vars = Items::new(alloc);
-    let mut place: u32 = 0;
-    for _ in names {
-        vars.push(place)?;
-        place = place.saturating_add(1);
-    }
-    let level = Level {
-        vars,
-        such_that: Items::new(alloc),
-    };
-    Ok(Items::from_vec(vec![in alloc; level]?))
-}
-
-/// The document of these rules.
-pub fn document(alloc: Global, rules: &[WrittenRule]) -> Result<Doc, OutOfMemory> {
-    let mut made = Items::new(alloc);
-    for rule in rules {
-        made.push(rule.make(alloc)?)?;
-    }
-    Ok(Doc { rules: made })
+    Ok(())
 }

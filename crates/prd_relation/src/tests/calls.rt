@@ -8,7 +8,8 @@ use super::values::{
     WrittenChange, WrittenCondition, WrittenConst, WrittenFact, WrittenRule, changes, delta, doc,
     facts, instance, row,
 };
-use crate::{Candidate, Facts, Mark, Plain, choose_plain, list_instances, matches, priority};
+use crate::{Candidate, Mark, Plain, choose_plain, priority};
+use rif_match::{Facts, list_instances, matches};
 use rif_terms::{Binding, Doc, Instance, Listed, OutOfMemory};
 use std::alloc::Global;
 use std::process::Abort;

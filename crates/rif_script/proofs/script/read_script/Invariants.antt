@@ -1,13 +1,15 @@
-use Rattle.std.proofs.Common.{◌≡◌, length}
-use Rattle.std.specs.Str.{IsAscii}
+use Rattle.std.proofs.Common.{◌≡◌, ◌+◌, ◌<◌, ◌≤◌, ◌^◌, length}
+use Rattle.rif_terms.specs.declared.limits.TheConstants.{MOST_CLIENTS}
 use Rattle.rif_script.specs.Jobs.{lines_of}
 use Rattle.rif_script.specs.ReadingLines.{no_lines, with_lines}
 use Rattle.rif_script.proofs.script.read_script.Given as goal
 
 abbrev pub invariant-loop-rest : goal.invariant-loop-rest
 invariant-loop-rest l = record {
-  ascii : IsAscii l.rest;
-  lines : with_lines no_lines (lines_of l.bytes) ≡ with_lines l.script (lines_of l.rest);
+  few : length l.script.names ≤ MOST_CLIENTS;
+  counted : l.number + length l.rest < 2 ^ 64;
+  lines : with_lines l.prefixes l.first no_lines (lines_of l.text)
+      ≡ with_lines l.prefixes l.number l.script (lines_of l.rest);
 }
 
 abbrev pub decreases-loop-rest : goal.decreases-loop-rest

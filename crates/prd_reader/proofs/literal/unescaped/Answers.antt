@@ -1,0 +1,12 @@
+use Rattle.std.proofs.Common.{◌≡◌, ◌∙◌, sym, subst, IfOk, List, ℕ}
+use Rattle.prd_reader.proofs.EscapeLemmas.{plain_is, unescaped_utf8}
+use Rattle.prd_reader.proofs.literal.unescaped.Goals as goal
+
+pub returns-then-not-has_escape : goal.returns-then-not-has_escape
+returns-then-not-has_escape c =
+    let none = sym c.has_escape.ensures ∙ c.if-not-has_escape.true in
+    let plain = plain_is c.args.text.now none in
+    subst (λ (t : List ℕ). IfOk c.from_bytes.result (λ made. made ≡ t)) (sym plain) c.from_bytes.ensures
+
+pub from_bytes-requires-2 : goal.from_bytes-requires-2
+from_bytes-requires-2 c = rw (c.as_slice.ensures.value, c.in_ok-bytes.ensures) (unescaped_utf8 c.args.text.now c.requires)

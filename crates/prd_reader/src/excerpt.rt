@@ -1,0 +1,106 @@
+//! Parts of a text, as they stand in a line for people.
+ghost use Rattle.std.specs.Prelude.{◌≤◌, length};
+
+use rif_terms::OutOfMemory;
+
+// How many characters of a text are shown.
+const MOST_CHARACTERS: u64 = 40;
+
+/// Puts a text between backquotes at the end of `out`, as `push_short` does.
+pub(crate) fn push_quoted(out: &mut Vec<u8>, text: &[u8]) -> Result<(), OutOfMemory> {
+    out.push(b'`')?;
+    push_short(out, text)?;
+    out.push(b'`')?;
+    Ok(())
+}
+
+/// Puts at most 40 characters of a text at the end of `out`, with `..` behind where there are more, and a space
+/// in place of each control character.
+pub(crate) fn push_short(out: &mut Vec<u8>, text: &[u8]) -> Result<(), OutOfMemory> {
+    let end = length_of(text, MOST_CHARACTERS);
+    for byte in &text[..end] {
+        out.push(if byte.is_ascii_control() { b' ' } else { *byte })?;
+    }
+    if end < text.len() {
+        out.extend_from_slice(b"..")?;
+    }
+    Ok(())
+}
+
+/// The text from a place on; lines and columns are counted from 1, columns in characters.
+pub(crate) fn text_at(bytes: &[u8], line: u64, col: u64) -> &[u8] {
+    let text = lines_from(bytes, line);
+    &text[length_of(text, col.saturating_sub(1))..]
+}
+
+/// The text of a line, without the white space at its ends.
+pub(crate) fn line_at(bytes: &[u8], line: u64) -> &[u8] {
+    let text = lines_from(bytes, line);
+    match text.iter().position(|byte| *byte == b'\n') {
+        Some(end) => text[..end].trim_ascii(),
+        None => text.trim_ascii(),
+    }
+}
+
+/// What of a text stands before the first white space.
+pub(crate) fn before_white(text: &[u8]) -> &[u8] {
+    match text.iter().position(|byte| is_white(*byte)) {
+        Some(end) => &text[..end],
+        None => text,
+    }
+}
+
+/// Whether the string that a text begins with is closed in its line.
+pub(crate) fn is_string_closed(text: &[u8]) -> bool {
+    let mut escaped = true;
+    for byte in text {
+        match *byte {
+            b'\n' => return false,
+            b'"' if !escaped => return true,
+            b'\\' => escaped = !escaped,
+            _ => escaped = false,
+        }
+    }
+    false
+}
+
+// How many bytes the first so many characters of a text have, or all where it has fewer.
+fn length_of(text: &[u8], characters: u64) -> usize
+    ensures { result ≤ length text.now }
+{
+    let mut left = characters;
+    for at in 0..text.len() {
+        if !is_continuation(text[at]) {
+            if left == 0 {
+                return at;
+            }
+            left -= 1;
+        }
+    }
+    text.len()
+}
+
+// White space between tokens.
+fn is_white(byte: u8) -> bool {
+    match byte {
+        b' ' | b'\t' | b'\r' | b'\n' => true,
+        _ => false,
+    }
+}
+
+// Whether a byte isn't the first of its character.
+fn is_continuation(byte: u8) -> bool {
+    128 <= byte && byte < 192
+}
+
+// The text from the front of a line on.
+fn lines_from(bytes: &[u8], line: u64) -> &[u8] {
+    let mut text = bytes;
+    for _ in 1..line {
+        match text.iter().position(|byte| *byte == b'\n') {
+            Some(end) => text = &text[end + 1..],
+            None => return &text[text.len()..],
+        }
+    }
+    text
+}

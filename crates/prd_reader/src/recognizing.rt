@@ -1,0 +1,84 @@
+//! Whether leaves are a document at which no refusal stands, or else where the first one stands.
+ghost use Rattle.std.specs.Prelude.{◌≡◌, ◌++◌, IfOk};
+ghost use Rattle.prd_reader.specs.declared.leaf.Leaf.TheVariants.{Close};
+ghost use Rattle.prd_reader.specs.Reached.{names_seen};
+ghost use Rattle.prd_reader.specs.Recognizing.{LeadsTo, Recognizes};
+
+use crate::cause::Cause;
+use crate::following::{advance, is_done};
+use crate::leaf::Leaf;
+use crate::progress::Reading;
+use crate::refusing::{cause_at, unexpected};
+use crate::want::Want;
+use rif_terms::{OutOfMemory, Text};
+use sqlite_items::Items;
+use std::alloc::Global;
+use std::collections::VecDeque;
+
+/// What leaves lead to.
+#[derive(Drop)]
+pub enum Outcome {
+    /// They are a document; the names of each rule, in order.
+    Document(Items<Items<Text>>),
+    /// A refusal decides at a place.
+    Refused { place: usize, cause: Cause },
+}
+
+/// What the leaves lead to, in time linear in their number.
+pub fn recognize(alloc: Global, leaves: &[Leaf]) -> Result<Outcome, OutOfMemory>
+    ensures { IfOk result (LeadsTo leaves.now) }
+{
+    recognize_from(alloc, leaves, &Leaf::Close)
+}
+
+// The same, where a closing bracket stands for the leaf before the first.
+fn recognize_from<'a>(
+    alloc: Global,
+    leaves: &'a [Leaf],
+    close: &'a Leaf,
+) -> Result<Outcome, OutOfMemory>
+    requires { close.now ≡ Close }
+    ensures { IfOk result (Recognizes leaves.now) }
+{
+    let mut stack = VecDeque::new(alloc);
+    stack.push_front(Want::Document)?;
+    let mut reading = Reading::new(alloc, close);
+    let mut names = Items::new(alloc);
+    for (place, leaf) in leaves.iter().enumerate() {
+        if !advance(&mut stack, leaf)? {
+            let cause = unexpected(leaf);
+            return Ok(Outcome::Refused { place, cause });
+        }
+        if let Some(cause) = cause_at(&reading, leaf) {
+            return Ok(Outcome::Refused { place, cause });
+        }
+        let (next, ended) = reading.with(alloc, leaf)?;
+        reading = next;
+        names = with_ended(names, ended)?;
+    }
+    if is_done(&stack) {
+        Ok(Outcome::Document(names))
+    } else {
+        Ok(Outcome::Refused {
+            place: leaves.len(),
+            cause: Cause::Expected,
+        })
+    }
+}
+
+// The names with those of a rule that has ended, if one has.
+fn with_ended(
+    mut names: Items<Items<Text>>,
+    ended: Option<Items<Text>>,
+) -> Result<Items<Items<Text>>, OutOfMemory>
+    ensures { IfOk result (λ more. more ≡ names ++ names_seen ended) }
+{
+    match ended {
+        None => {}
+        Some(rule) => names.push(rule)?,
+    }
+    Ok(names)
+}
+
+#[cfg(test)]
+mod tests;

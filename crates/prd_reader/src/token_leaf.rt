@@ -1,0 +1,214 @@
+//! A token as the grammar sees it.
+ghost use Rattle.std.specs.Prelude.{◌≡◌, ◌++◌, if◌then◌else◌, map, IfOk, IfSome, IsUtf8, MatchOption, None, Some};
+ghost use Rattle.rif_lex.specs.Spelling.{written};
+ghost use Rattle.prd_reader.specs.declared.leaf.Leaf.TheVariants.{Curie as CurieLeaf, Iri as IriLeaf, Word as WordLeaf};
+ghost use Rattle.prd_reader.specs.Leaves.{curie_iri, is_behind_prefix, leaf_of, literal_leaf, named_leaf, string_leaf, typed_leaf, word_leaf};
+ghost use Rattle.prd_reader.specs.LeafSteps.{front_of, literal_by, IsTokenOf};
+
+use crate::behind::Behind;
+use crate::builtin_name::builtin_named;
+use crate::keyword::word_leaf;
+use crate::leaf::{BuiltinName, Leaf, Literal};
+use crate::literal::{integer_of, is_type, literal_of, unescaped};
+use crate::prefixes::Prefixes;
+use crate::token_text::{before_colon, behind_colon, behind_sign, inner, text_of};
+use rif_lex::{Kind, Token};
+use rif_terms::{OutOfMemory, Text};
+use std::alloc::Global;
+
+/// The leaf of a token of the bytes, where these prefixes are declared, this stands straight before it, and these
+/// tokens stand behind it.
+///
+/// Linear in the token's length, and for a string in that of the type two tokens on; for a CURIE in the length of
+/// the IRI that it stands for, too. The text that the leaf has is copied.
+///
+/// Source: our own (docs/FORMATS.md, "Grammar" and "Names").
+pub fn leaf_at(
+    alloc: Global,
+    prefixes: &Prefixes,
+    behind: Behind,
+    token: Token,
+    rest: &[Token],
+    bytes: &[u8],
+) -> Result<Leaf, OutOfMemory>
+    requires { IsTokenOf bytes.now token }
+    ensures { IfOk result (λ leaf. leaf
+        ≡ leaf_of prefixes.now (front_of behind) (written bytes.now token) (map (written bytes.now) rest.now)) }
+{
+    let text = text_of(bytes, token);
+    match token.kind {
+        Kind::Word => word_or_name(alloc, behind, text),
+        Kind::Curie => curie_leaf(alloc, prefixes, behind, text),
+        Kind::Local => Ok(Leaf::Local(Text::from_bytes(alloc, behind_sign(text))?)),
+        Kind::Var => Ok(Leaf::Var(Text::from_bytes(alloc, behind_sign(text))?)),
+        Kind::Int => Ok(Leaf::Int(integer_of(text))),
+        Kind::Str => {
+            let content = unescaped(alloc, inner(text))?;
+            string_leaf(alloc, prefixes, content, rest, bytes)
+        }
+        Kind::Iri => iri_leaf(alloc, behind, inner(text)),
+        Kind::Open => Ok(Leaf::Open),
+        Kind::Close => Ok(Leaf::Close),
+        Kind::OpenSquare => Ok(Leaf::OpenSquare),
+        Kind::CloseSquare => Ok(Leaf::CloseSquare),
+        Kind::Equal => Ok(Leaf::Equal),
+        Kind::Hash => Ok(Leaf::Hash),
+        Kind::HashHash => Ok(Leaf::LeftOut),
+        Kind::Arrow => Ok(Leaf::Arrow),
+        Kind::Carets => Ok(Leaf::Carets),
+    }
+}
+
+// A word, which straight behind `Prefix` `(` is a name.
+fn word_or_name(alloc: Global, behind: Behind, text: &[u8]) -> Result<Leaf, OutOfMemory>
+    requires { IsUtf8 text.now }
+    ensures { IfOk result (λ leaf. leaf
+        ≡ (if is_behind_prefix (front_of behind) then WordLeaf text.now else word_leaf text.now)) }
+{
+    match behind {
+        Behind::Prefix => Ok(Leaf::Word(Text::from_bytes(alloc, text)?)),
+        _ => word_leaf(alloc, text),
+    }
+}
+
+// An IRI by its text: a type, a built-in's name, or itself.
+fn iri_leaf(alloc: Global, behind: Behind, text: &[u8]) -> Result<Leaf, OutOfMemory>
+    requires { IsUtf8 text.now }
+    ensures { IfOk result (λ leaf. leaf ≡ named_leaf (front_of behind) (Some text.now) (IriLeaf text.now)) }
+{
+    match behind {
+        Behind::Carets => Ok(Leaf::TypeName(is_type(text))),
+        Behind::External => Ok(Leaf::Builtin(builtin_named(text))),
+        _ => Ok(Leaf::Iri(Text::from_bytes(alloc, text)?)),
+    }
+}
+
+// A CURIE by its text: a type, a built-in's name, or an IRI.
+fn curie_leaf(
+    alloc: Global,
+    prefixes: &Prefixes,
+    behind: Behind,
+    text: &[u8],
+) -> Result<Leaf, OutOfMemory>
+    requires { IsUtf8 text.now }
+    ensures { IfOk result (λ leaf. leaf
+        ≡ named_leaf (front_of behind) (curie_iri prefixes.now text.now) (CurieLeaf (curie_iri prefixes.now text.now))) }
+{
+    match curie_iri(alloc, prefixes, text)? {
+        Some(iri) => known_curie(alloc, behind, iri.as_slice()),
+        None => Ok(unknown_curie(behind)),
+    }
+}
+
+fn known_curie(alloc: Global, behind: Behind, iri: &[u8]) -> Result<Leaf, OutOfMemory>
+    requires { IsUtf8 iri.now }
+    ensures { IfOk result (λ leaf. leaf ≡ named_leaf (front_of behind) (Some iri.now) (CurieLeaf (Some iri.now))) }
+{
+    match behind {
+        Behind::Carets => Ok(Leaf::TypeName(is_type(iri))),
+        Behind::External => Ok(Leaf::Builtin(builtin_named(iri))),
+        _ => Ok(Leaf::Curie(Some(Text::from_bytes(alloc, iri)?))),
+    }
+}
+
+// A CURIE whose prefix isn't declared.
+fn unknown_curie(behind: Behind) -> Leaf
+    ensures { result ≡ named_leaf (front_of behind) None (CurieLeaf None) }
+{
+    match behind {
+        Behind::Carets => Leaf::TypeName(false),
+        Behind::External => Leaf::Builtin(BuiltinName::Undeclared),
+        _ => Leaf::Curie(None),
+    }
+}
+
+// The IRI that a CURIE stands for, if its prefix is declared.
+fn curie_iri(
+    alloc: Global,
+    prefixes: &Prefixes,
+    text: &[u8],
+) -> Result<Option<Vec<u8>>, OutOfMemory>
+    ensures is { IfOk result (λ found. MatchOption found (curie_iri prefixes.now text.now ≡ None)
+        (λ iri. curie_iri prefixes.now text.now ≡ Some iri.items)) }
+    ensures utf8 { IfOk result (λ found. IfSome found (λ iri. IsUtf8 text.now → IsUtf8 iri.items)) }
+{
+    match prefixes.meaning(before_colon(text)) {
+        Some(meaning) => Ok(Some(joined(alloc, meaning, behind_colon(text))?)),
+        None => Ok(None),
+    }
+}
+
+fn joined(alloc: Global, first: &[u8], second: &[u8]) -> Result<Vec<u8>, OutOfMemory>
+    ensures { IfOk result (λ whole. whole.items ≡ first.now ++ second.now) }
+{
+    let mut whole = Vec::with_capacity(alloc, first.len().saturating_add(second.len()))?;
+    whole.extend_from_slice(first)?;
+    whole.extend_from_slice(second)?;
+    Ok(whole)
+}
+
+// A string, which is judged by the type two tokens on.
+fn string_leaf(
+    alloc: Global,
+    prefixes: &Prefixes,
+    content: Text,
+    rest: &[Token],
+    bytes: &[u8],
+) -> Result<Leaf, OutOfMemory>
+    ensures { IfOk result (λ leaf. leaf ≡ string_leaf prefixes.now content (map (written bytes.now) rest.now)) }
+{
+    match rest.split_first() {
+        None => Ok(Leaf::Str(content)),
+        Some((next, more)) => match next.kind {
+            Kind::Carets => literal_by(alloc, prefixes, content, more, bytes),
+            _ => Ok(Leaf::Str(content)),
+        },
+    }
+}
+
+// A string by what stands behind its `^^`.
+fn literal_by(
+    alloc: Global,
+    prefixes: &Prefixes,
+    content: Text,
+    rest: &[Token],
+    bytes: &[u8],
+) -> Result<Leaf, OutOfMemory>
+    ensures { IfOk result (λ leaf. leaf ≡ literal_by prefixes.now content (map (written bytes.now) rest.now)) }
+{
+    match rest.split_first() {
+        None => Ok(Leaf::Typed(Literal::OfNoType)),
+        Some((token, _)) => typed_leaf(alloc, prefixes, content, *token, bytes),
+    }
+}
+
+// A string whose type this token is.
+fn typed_leaf(
+    alloc: Global,
+    prefixes: &Prefixes,
+    content: Text,
+    token: Token,
+    bytes: &[u8],
+) -> Result<Leaf, OutOfMemory>
+    ensures { IfOk result (λ leaf. leaf ≡ typed_leaf prefixes.now content (written bytes.now token)) }
+{
+    let text = text_of(bytes, token);
+    match token.kind {
+        Kind::Iri => Ok(literal_leaf(content, inner(text))),
+        Kind::Curie => match curie_iri(alloc, prefixes, text)? {
+            Some(iri) => Ok(literal_leaf(content, iri.as_slice())),
+            None => Ok(Leaf::Typed(Literal::OfNoType)),
+        },
+        _ => Ok(Leaf::Typed(Literal::OfNoType)),
+    }
+}
+
+// A string whose type has this IRI.
+fn literal_leaf(content: Text, iri: &[u8]) -> Leaf
+    ensures { result ≡ literal_leaf content (Some iri.now) }
+{
+    match literal_of(iri, content) {
+        Some(literal) => Leaf::Typed(literal),
+        None => Leaf::Misspelled,
+    }
+}

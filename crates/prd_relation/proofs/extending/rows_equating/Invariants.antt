@@ -1,6 +1,0 @@
-use Rattle.std.proofs.Common.{◌≡◌, take, filter_map}
-use Rattle.prd_relation.specs.Extensions.{equal_row}
-use Rattle.prd_relation.proofs.extending.rows_equating.Given as goal
-
-abbrev pub invariant-loop-row : goal.invariant-loop-row
-invariant-loop-row l = l.all.items ≡ filter_map (equal_row l.left l.right) (take l.row-index l.rows)

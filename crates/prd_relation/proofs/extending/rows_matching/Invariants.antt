@@ -1,6 +1,0 @@
-use Rattle.std.proofs.Common.{◌≡◌, take}
-use Rattle.prd_relation.specs.Extensions.{matched}
-use Rattle.prd_relation.proofs.extending.rows_matching.Given as goal
-
-abbrev pub invariant-loop-row : goal.invariant-loop-row
-invariant-loop-row l = l.all.items ≡ matched l.facts l.pattern (take l.row-index l.rows)

@@ -1,7 +1,0 @@
-use Rattle.std.proofs.Common.{◌≡◌, take, filter}
-use Rattle.prd_relation.specs.Extensions.{holds_at}
-use Rattle.prd_relation.specs.Values.{values_of}
-use Rattle.prd_relation.proofs.extending.rows_where.Given as goal
-
-abbrev pub invariant-loop-row : goal.invariant-loop-row
-invariant-loop-row l = l.all.items ≡ filter (λ row. holds_at l.pred (values_of row l.terms)) (take l.row-index l.rows)

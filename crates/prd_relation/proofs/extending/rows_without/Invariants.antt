@@ -1,6 +1,0 @@
-use Rattle.std.proofs.Common.{◌≡◌, take, map}
-use Rattle.prd_relation.specs.Extensions.{without_variables}
-use Rattle.prd_relation.proofs.extending.rows_without.Given as goal
-
-abbrev pub invariant-loop-row : goal.invariant-loop-row
-invariant-loop-row l = l.all.items ≡ map (without_variables l.vars) (take l.row-index l.rows)

@@ -1,7 +1,0 @@
-use Rattle.std.proofs.Common.{◌≡◌, ◌++◌, suc, drop}
-use Rattle.prd_relation.specs.ConflictSet.{conflict_set, instances_from}
-use Rattle.prd_relation.proofs.listing.list_instances.Given as goal
-
-abbrev pub invariant-loop-place : goal.invariant-loop-place
-invariant-loop-place l =
-    l.all.items ++ instances_from (suc l.place) (drop l.place l.doc.rules) l.facts ≡ conflict_set l.doc l.facts

@@ -1,0 +1,5 @@
+pub mod Builtins
+pub mod ConflictSet
+pub mod Extensions
+pub mod Laws
+pub mod Values

@@ -1,0 +1,12 @@
+use Rattle.rif_run.proofs.CompletenessLemmas.{is_done}
+use Rattle.rif_run.proofs.top.rif_run.Goals as goal
+
+pub returns-in-Ok-write_text-clause-complete : goal.returns-in-Ok-write_text-clause-complete
+returns-in-Ok-write_text-clause-complete over c = λ taken reads writes.
+    is_done _ _ _ _ _ (record {
+      command = c.in-Some.command;
+      told = c.in-Some.ensures;
+      input = c.in-Ok.input.items;
+      read = c.in-Ok.ensures.read;
+      answers = rw c.as_slice.ensures.value at c.in-Ok-answer_to.ensures;
+    }) taken

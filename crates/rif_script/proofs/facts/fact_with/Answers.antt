@@ -1,0 +1,9 @@
+use Rattle.rif_script.proofs.FirstLeafLemmas.{fact_first, first_seen}
+use Rattle.rif_script.proofs.facts.fact_with.Goals as goal
+
+pub returns : goal.returns
+returns c =
+    let rest = c.in-Some.rest in
+    let leaf = c.in-Some.leaf in
+    let front = first_seen c.args.at rest leaf c.in_ok-leaf.field-0 c.in-Some.is c.in_ok-leaf.ensures in
+    rw (fact_first c.args.object c.args.at rest leaf front) c.fact_behind.ensures
