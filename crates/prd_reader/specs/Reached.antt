@@ -62,6 +62,11 @@ abbrev pub rule_kept : ℕ → Bool → Option Counts → Leaf → Option Counts
 rule_kept behind named None l = None
 rule_kept behind named (Some c) l = if ends_at behind c l then None else Some (counts_with named c l)
 
+-- the rule with one more leaf counted, if one is being read
+abbrev pub rule_counted : Bool → Option Counts → Leaf → Option Counts
+rule_counted named None l = None
+rule_counted named (Some c) l = Some (counts_with named c l)
+
 -- `names_ended`, in the same way
 abbrev pub names_given : ℕ → Option Counts → Leaf → List (List (List ℕ))
 names_given behind None l = []

@@ -1,6 +1,6 @@
 //! What a rule has so far.
-ghost use Rattle.std.specs.Prelude.{◌≡◌, ◌+◌, ◌<◌, ◌^◌, Some, IfOk, pred};
-ghost use Rattle.prd_reader.specs.Reached.{RuleGoes, RuleHasRoom, counts_seen, rule_from, rule_seen};
+ghost use Rattle.std.specs.Prelude.{◌≡◌, None, Some, IfOk, MatchOption, OnOk, false, pred};
+ghost use Rattle.prd_reader.specs.Reached.{RuleGoes, RuleHasRoom, counts_seen, ends_at, rule_counted, rule_from, rule_seen};
 ghost use Rattle.prd_reader.specs.Values.{has_name, names_with};
 
 use crate::leaf::Leaf;
@@ -24,7 +24,7 @@ pub struct RuleReading {
 }
 
 impl RuleReading {
-    ghost use Rattle.std.specs.Prelude.{◌≡◌, ◌<◌, ◌+◌, ◌^◌, IfOk};
+    ghost use Rattle.std.specs.Prelude.{◌≡◌, ◌<◌, ◌+◌, ◌^◌, OnOk};
     ghost use Rattle.prd_reader.specs.Progress.{counts_with, is_pattern, no_counts};
     ghost use Rattle.prd_reader.specs.Reached.{counts_seen, ends_at};
 
@@ -55,21 +55,18 @@ impl RuleReading {
         is_close(leaf) && self.in_block && behind == self.around
     }
 
-    /// The same behind one more leaf.
-    pub fn with(self, named: bool, leaf: &Leaf) -> Result<RuleReading, OutOfMemory>
-        requires patterns { self.patterns + 1 < 2 ^ 64 }
-        requires actions { self.actions + 1 < 2 ^ 64 }
-        ensures { IfOk result (λ counts. counts_seen counts ≡ counts_with named (counts_seen self) leaf.now) }
+    /// Counts one more leaf.
+    pub fn count(&mut self, named: bool, leaf: &Leaf) -> Result<(), OutOfMemory>
+        requires patterns { self.old.patterns + 1 < 2 ^ 64 }
+        requires actions { self.old.actions + 1 < 2 ^ 64 }
+        ensures { OnOk result (counts_seen self.new ≡ counts_with named (counts_seen self.old) leaf.now) }
     {
         let patterns = u64::from(self.is_pattern(named, leaf));
-        let actions = u64::from(is_action(leaf));
-        Ok(RuleReading {
-            around: self.around,
-            in_block: self.in_block || is_do(leaf),
-            names: names_with(self.names, leaf)?,
-            patterns: self.patterns + patterns,
-            actions: self.actions + actions,
-        })
+        put_name(&mut self.names, leaf)?;
+        self.in_block = self.in_block || is_do(leaf);
+        self.patterns += patterns;
+        self.actions += u64::from(is_action(leaf));
+        Ok(())
     }
 
     /// The names.
@@ -81,43 +78,66 @@ impl RuleReading {
     }
 }
 
-/// The rule behind one more leaf, where so many brackets were open before it: one that was being read, or
-/// one that begins. None where no rule is being read; a rule that ends at the leaf gives its names.
-pub fn rule_with(
+/// Goes on in a rule behind one more leaf, where so many brackets were open before it: in one that is being
+/// read, or in one that begins. The answer is the names of a rule that ends at the leaf.
+pub fn go_on_in_rule(
     alloc: Global,
-    rule: Option<RuleReading>,
+    rule: &mut Option<RuleReading>,
     depth: usize,
     named: bool,
     leaf: &Leaf,
-) -> Result<(Option<RuleReading>, Option<Items<Text>>), OutOfMemory>
-    requires { RuleHasRoom (rule_seen rule) }
-    ensures { IfOk result (λ next. RuleGoes (pred depth) named (rule_from (rule_seen rule) depth leaf.now) leaf.now next.0 next.1) }
+) -> Result<Option<Items<Text>>, OutOfMemory>
+    requires { RuleHasRoom (rule_seen rule.old) }
+    ensures { IfOk result (λ ended.
+        RuleGoes (pred depth) named (rule_from (rule_seen rule.old) depth leaf.now) leaf.now rule.new ended) }
+{
+    begin_rule(alloc, rule, depth, leaf);
+    if is_ended(rule, depth.saturating_sub(1), leaf) {
+        return Ok(end_rule(rule));
+    }
+    count_in(rule, named, leaf)?;
+    Ok(None)
+}
+
+// A rule begins where none is being read and the leaf begins one.
+fn begin_rule(alloc: Global, rule: &mut Option<RuleReading>, depth: usize, leaf: &Leaf)
+    ensures { rule_seen rule.new ≡ rule_from (rule_seen rule.old) depth leaf.now }
 {
     match rule {
-        Some(counts) => kept_or_ended(counts, depth.saturating_sub(1), named, leaf),
-        None if begins_rule(leaf) => {
-            let counts = RuleReading::new(alloc, depth);
-            kept_or_ended(counts, depth.saturating_sub(1), named, leaf)
-        }
-        None => Ok((None, None)),
+        None if begins_rule(leaf) => *rule = Some(RuleReading::new(alloc, depth)),
+        _ => {}
     }
 }
 
-// The rule behind one more leaf, or its names where it ends.
-fn kept_or_ended(
-    counts: RuleReading,
-    behind: usize,
-    named: bool,
-    leaf: &Leaf,
-) -> Result<(Option<RuleReading>, Option<Items<Text>>), OutOfMemory>
-    requires patterns { counts.patterns + 1 < 2 ^ 64 }
-    requires actions { counts.actions + 1 < 2 ^ 64 }
-    ensures { IfOk result (λ next. RuleGoes behind named (Some (counts_seen counts)) leaf.now next.0 next.1) }
+// Whether the rule that is being read ends at a leaf, behind which so many brackets are open if it closes one.
+fn is_ended(rule: &Option<RuleReading>, behind: usize, leaf: &Leaf) -> bool
+    ensures { MatchOption rule.now (result ≡ false) (λ counts. result ≡ ends_at behind (counts_seen counts) leaf.now) }
 {
-    if counts.ends(behind, leaf) {
-        Ok((None, Some(counts.into_names())))
-    } else {
-        Ok((Some(counts.with(named, leaf)?), None))
+    match rule {
+        None => false,
+        Some(counts) => counts.ends(behind, leaf),
+    }
+}
+
+// Ends the rule that is being read. The answer is its names.
+fn end_rule(rule: &mut Option<RuleReading>) -> Option<Items<Text>>
+    ensures none { rule.new ≡ None }
+    ensures names { MatchOption rule.old (result ≡ None) (λ counts. result ≡ Some counts.names) }
+{
+    match rule.take() {
+        None => None,
+        Some(counts) => Some(counts.into_names()),
+    }
+}
+
+// Counts one more leaf of the rule that is being read.
+fn count_in(rule: &mut Option<RuleReading>, named: bool, leaf: &Leaf) -> Result<(), OutOfMemory>
+    requires { RuleHasRoom (rule_seen rule.old) }
+    ensures { OnOk result (rule_seen rule.new ≡ rule_counted named (rule_seen rule.old) leaf.now) }
+{
+    match rule {
+        None => Ok(()),
+        Some(counts) => counts.count(named, leaf),
     }
 }
 
@@ -131,13 +151,12 @@ pub fn has_name(names: &Items<Text>, name: &Text) -> bool
         .any(|known| known.bytes() == name.bytes())
 }
 
-// The names with that of a leaf, where it is a variable.
-fn names_with(mut names: Items<Text>, leaf: &Leaf) -> Result<Items<Text>, OutOfMemory>
-    ensures { IfOk result (λ more. more ≡ names_with names leaf.now) }
+// Adds the name of a leaf, where it is a variable that isn't one of these.
+fn put_name(names: &mut Items<Text>, leaf: &Leaf) -> Result<(), OutOfMemory>
+    ensures { OnOk result (names.new ≡ names_with names.old leaf.now) }
 {
     match leaf {
-        Leaf::Var(name) if !has_name(&names, name) => names.push(name.copy()?)?,
-        _ => {}
+        Leaf::Var(name) if !has_name(names, name) => Ok(names.push(name.copy()?)?),
+        _ => Ok(()),
     }
-    Ok(names)
 }

@@ -1,9 +1,9 @@
 //! What has been read so far, as far as refusals depend on it.
-ghost use Rattle.std.specs.Prelude.{◌≡◌, ◌+◌, ◌<◌, ◌^◌, if◌then◌else◌, IfOk, length, suc};
+ghost use Rattle.std.specs.Prelude.{◌≡◌, ◌+◌, ◌<◌, ◌^◌, if◌then◌else◌, OnOk, length, suc};
 ghost use Rattle.prd_reader.specs.Progress.{brackets_with, head_with, opened, with_argument};
 ghost use Rattle.prd_reader.specs.Reached.{HasRoom, name_with};
 
-use crate::counting::{RuleReading, rule_with};
+use crate::counting::{RuleReading, go_on_in_rule};
 use crate::leaf::{Builtin, BuiltinName, Keyword, Leaf, Literal};
 use crate::signs::{begins_rule, is_term, takes_term};
 use rif_terms::{OutOfMemory, Text};
@@ -67,37 +67,26 @@ impl<'a> Reading<'a> {
         }
     }
 
-    /// The same behind one more leaf, and the names of the rule that ends at it, if one does.
-    pub fn with(
-        self,
+    /// Goes on behind one more leaf. The answer is the names of the rule that ends at it, if one does.
+    pub fn go_on(
+        &mut self,
         alloc: Global,
         leaf: &'a Leaf,
-    ) -> Result<(Reading<'a>, Option<Items<Text>>), OutOfMemory>
-        requires arguments { HasRoom self.brackets.items }
-        requires rules { self.rules + 1 < 2 ^ 64 }
-        requires rule { RuleHasRoom (rule_seen self.rule) }
-        ensures { IfOk result (λ next. ReadingGoes (progress_seen self.entry) leaf.now next.0 next.1) }
+    ) -> Result<Option<Items<Text>>, OutOfMemory>
+        requires arguments { HasRoom self.old.brackets.items }
+        requires rules { self.old.rules + 1 < 2 ^ 64 }
+        requires rule { RuleHasRoom (rule_seen self.old.rule) }
+        ensures { IfOk result (λ ended. ReadingGoes (progress_seen self.old) leaf.now self.new ended) }
     {
-        let rules = rules_with(self.rules, self.is_new_rule(leaf));
+        let is_new = self.is_new_rule(leaf);
         let depth = depth_of(&self.brackets);
-        let Reading {
-            brackets,
-            last,
-            in_head,
-            named,
-            rule,
-            ..
-        } = self;
-        let (rule, ended) = rule_with(alloc, rule, depth, named, leaf)?;
-        let next = Reading {
-            brackets: brackets_with(brackets, last, leaf)?,
-            last: leaf,
-            in_head: head_with(in_head, leaf),
-            named: named_with(named, last, leaf),
-            rules,
-            rule,
-        };
-        Ok((next, ended))
+        let ended = go_on_in_rule(alloc, &mut self.rule, depth, self.named, leaf)?;
+        put_bracket(&mut self.brackets, self.last, leaf)?;
+        self.named = named_with(self.named, self.last, leaf);
+        self.in_head = head_with(self.in_head, leaf);
+        self.rules = rules_with(self.rules, is_new);
+        self.last = leaf;
+        Ok(ended)
     }
 }
 
@@ -150,38 +139,37 @@ fn opened(last: &Leaf) -> Bracket
     }
 }
 
-// The brackets with one argument more in the innermost.
-fn with_argument(mut brackets: VecDeque<Bracket>) -> Result<VecDeque<Bracket>, OutOfMemory>
-    requires { HasRoom brackets.items }
-    ensures { IfOk result (λ more. more.items ≡ with_argument brackets.items) }
+// One argument more stands in the innermost bracket.
+fn put_argument(brackets: &mut VecDeque<Bracket>) -> Result<(), OutOfMemory>
+    requires { HasRoom brackets.old.items }
+    ensures { OnOk result (brackets.new.items ≡ with_argument brackets.old.items) }
 {
     match brackets.pop_front() {
-        None => {}
-        Some(Bracket::Plain) => brackets.push_front(Bracket::Plain)?,
+        None => Ok(()),
+        Some(Bracket::Plain) => Ok(brackets.push_front(Bracket::Plain)?),
         Some(Bracket::Arguments(builtin, count)) => {
-            brackets.push_front(Bracket::Arguments(builtin, count + 1))?
+            Ok(brackets.push_front(Bracket::Arguments(builtin, count + 1))?)
         }
     }
-    Ok(brackets)
 }
 
 // The brackets behind one more leaf.
-fn brackets_with(
-    mut brackets: VecDeque<Bracket>,
+fn put_bracket(
+    brackets: &mut VecDeque<Bracket>,
     last: &Leaf,
     leaf: &Leaf,
-) -> Result<VecDeque<Bracket>, OutOfMemory>
-    requires { HasRoom brackets.items }
-    ensures { IfOk result (λ more. more.items ≡ brackets_with brackets.items last.now leaf.now) }
+) -> Result<(), OutOfMemory>
+    requires { HasRoom brackets.old.items }
+    ensures { OnOk result (brackets.new.items ≡ brackets_with brackets.old.items last.now leaf.now) }
 {
     match leaf {
-        Leaf::Open => brackets.push_front(opened(last))?,
-        Leaf::OpenSquare => brackets.push_front(Bracket::Plain)?,
+        Leaf::Open => Ok(brackets.push_front(opened(last))?),
+        Leaf::OpenSquare => Ok(brackets.push_front(Bracket::Plain)?),
         Leaf::Close | Leaf::CloseSquare => {
             brackets.pop_front();
+            Ok(())
         }
-        _ if is_term(leaf) => return with_argument(brackets),
-        _ => {}
+        _ if is_term(leaf) => put_argument(brackets),
+        _ => Ok(()),
     }
-    Ok(brackets)
 }

@@ -1,5 +1,5 @@
 //! Whether leaves are a document at which no refusal stands, or else where the first one stands.
-ghost use Rattle.std.specs.Prelude.{◌≡◌, ◌++◌, IfOk};
+ghost use Rattle.std.specs.Prelude.{◌≡◌, ◌++◌, IfOk, OnOk};
 ghost use Rattle.prd_reader.specs.declared.leaf.Leaf.TheVariants.{Close};
 ghost use Rattle.prd_reader.specs.Reached.{names_seen};
 ghost use Rattle.prd_reader.specs.Recognizing.{LeadsTo, Recognizes};
@@ -52,9 +52,8 @@ fn recognize_from<'a>(
         if let Some(cause) = cause_at(&reading, leaf) {
             return Ok(Outcome::Refused { place, cause });
         }
-        let (next, ended) = reading.with(alloc, leaf)?;
-        reading = next;
-        names = with_ended(names, ended)?;
+        let ended = reading.go_on(alloc, leaf)?;
+        put_ended(&mut names, ended)?;
     }
     if is_done(&stack) {
         Ok(Outcome::Document(names))
@@ -66,18 +65,14 @@ fn recognize_from<'a>(
     }
 }
 
-// The names with those of a rule that has ended, if one has.
-fn with_ended(
-    mut names: Items<Items<Text>>,
-    ended: Option<Items<Text>>,
-) -> Result<Items<Items<Text>>, OutOfMemory>
-    ensures { IfOk result (λ more. more ≡ names ++ names_seen ended) }
+// Adds the names of a rule that has ended, if one has.
+fn put_ended(names: &mut Items<Items<Text>>, ended: Option<Items<Text>>) -> Result<(), OutOfMemory>
+    ensures { OnOk result (names.new ≡ names.old ++ names_seen ended) }
 {
     match ended {
-        None => {}
-        Some(rule) => names.push(rule)?,
+        None => Ok(()),
+        Some(rule) => Ok(names.push(rule)?),
     }
-    Ok(names)
 }
 
 #[cfg(test)]

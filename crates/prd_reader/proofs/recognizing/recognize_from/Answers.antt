@@ -27,23 +27,23 @@ loop-place-preserved c =
     record {
       followed = followed_more c.args.leaves.now l.place _ l.stack.items _ inside at l.invariant.followed
           (rw c.if-not-branch.false at c.in_ok-advance.ensures);
-      seen = seen_more c.args.leaves.now l.place _ _ _ inside at l.invariant.seen c.in_ok-next.ensures.0;
+      seen = seen_more c.args.leaves.now l.place _ _ _ inside at l.invariant.seen c.in_ok-ended.ensures.0;
       clear = clear_more c.args.leaves.now l.place _ _ at l.invariant.clear l.invariant.seen (sym c.in_default.ensures);
-      read = named_more c.args.leaves.now l.place _ _ _ _ _ inside at l.invariant.seen l.invariant.read c.in_ok-next.ensures.1 c.in_ok-names.ensures;
+      read = named_more c.args.leaves.now l.place _ _ _ _ _ inside at l.invariant.seen l.invariant.read c.in_ok-ended.ensures.1 c.in_ok-put_ended.ensures;
     }
 
-pub with-requires-clause-arguments : goal.with-requires-clause-arguments
-with-requires-clause-arguments c =
+pub go_on-requires-clause-arguments : goal.go_on-requires-clause-arguments
+go_on-requires-clause-arguments c =
     let fits : c.loop-place.place + 1 < 2 ^ 64 = omega arith in
     (has_rooms c.args.leaves.now c.loop-place.place _ (omega arith) fits c.loop-place.invariant.seen).arguments
 
-pub with-requires-clause-rules : goal.with-requires-clause-rules
-with-requires-clause-rules c =
+pub go_on-requires-clause-rules : goal.go_on-requires-clause-rules
+go_on-requires-clause-rules c =
     let fits : c.loop-place.place + 1 < 2 ^ 64 = omega arith in
     (has_rooms c.args.leaves.now c.loop-place.place _ (omega arith) fits c.loop-place.invariant.seen).rules
 
-pub with-requires-clause-rule : goal.with-requires-clause-rule
-with-requires-clause-rule c =
+pub go_on-requires-clause-rule : goal.go_on-requires-clause-rule
+go_on-requires-clause-rule c =
     let fits : c.loop-place.place + 1 < 2 ^ 64 = omega arith in
     (has_rooms c.args.leaves.now c.loop-place.place _ (omega arith) fits c.loop-place.invariant.seen).rule
 
