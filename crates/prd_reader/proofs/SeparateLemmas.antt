@@ -71,7 +71,7 @@ var_token (b ∷ bs) names = (forms_are_tokens Var (63 ∷ b ∷ bs)).1 (record 
 pub separate_const : (c : Const) (gap : Gap) (rest : List Spelled) → IsWritableConst c → AreSeparate rest →
     Ends gap rest → AreSeparate (const_spelling c gap rest)
 separate_const (IntConst z) gap rest w s e =
-    (constants_are_tokens.integers z w, ends_as_int (gap_text gap ++ spelled_text rest) e, s)
+    (constants_are_tokens.integers z w.small, ends_as_int (gap_text gap ++ spelled_text rest) e, s)
 separate_const (BoolConst b) gap rest w s e = (constants_are_tokens.truths b, e, s)
 separate_const (StrConst t) gap rest w s e = (constants_are_tokens.strings t, refl, s)
 separate_const (IriConst t) gap rest w s e = (constants_are_tokens.iris t w, refl, s)
