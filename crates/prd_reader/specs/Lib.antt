@@ -20,3 +20,4 @@ pub mod Canonical
 pub mod Writing
 pub mod Writable
 pub mod CanonicalTrees
+pub mod ReadBack

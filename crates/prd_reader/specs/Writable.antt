@@ -1,5 +1,5 @@
 -- Which constants and terms can be written so that they are read back. No public clause cites this module.
-use Rattle.std.specs.Prelude.{◌≡◌, ◌<◌, ◌^◌, ℕ, ℤ, pos, true, List, [], ◌∷◌, ◌++◌, get_or, Some}
+use Rattle.std.specs.Prelude.{◌≡◌, ◌<◌, ◌^◌, ℕ, ℤ, pos, true, List, [], ◌∷◌, ◌++◌, get_or, Some, IsUtf8}
 use Rattle.std.specs.Fmt.{signed_decimal}
 use lib.Signed.{mag}
 use Rattle.std.specs.List.{AllByRecursion}
@@ -18,9 +18,19 @@ abbrev pub Ends : Gap → List Spelled → Type 0
 Ends gap rest = ends_before Word (gap_text gap ++ spelled_text rest) ≡ true
 
 -- name characters, of which there is one at least
-abbrev pub IsNameText : List ℕ → Type 0
-IsNameText [] = ⊥
-IsNameText (b ∷ bs) = AreNames (b ∷ bs) []
+abbrev pub HasNames : List ℕ → Type 0
+HasNames [] = ⊥
+HasNames (b ∷ bs) = AreNames (b ∷ bs) []
+
+-- a text that may stand behind a name's sign
+pub record IsNameText (t : List ℕ) : Type 0 where
+  pub names : HasNames t
+  pub utf8 : IsUtf8 t
+
+-- a text that may stand between `<` and `>`
+pub record IsIriText (t : List ℕ) : Type 0 where
+  pub inside : AllByRecursion (λ b. is_inside_iri b ≡ true) t
+  pub utf8 : IsUtf8 t
 
 -- an integer of documents, which its text stands for
 pub record IsWritableInt (z : ℤ) : Type 0 where
@@ -30,8 +40,8 @@ pub record IsWritableInt (z : ℤ) : Type 0 where
 abbrev pub IsWritableConst : Const → Type 0
 IsWritableConst (Int z) = IsWritableInt z
 IsWritableConst (Bool b) = Unit {0}
-IsWritableConst (Str t) = Unit {0}
-IsWritableConst (Iri t) = AllByRecursion (λ b. is_inside_iri b ≡ true) t
+IsWritableConst (Str t) = IsUtf8 t
+IsWritableConst (Iri t) = IsIriText t
 IsWritableConst (Local t) = IsNameText t
 IsWritableConst (Fresh k) = ⊥
 
