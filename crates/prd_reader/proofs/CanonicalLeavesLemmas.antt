@@ -8,7 +8,8 @@ use Rattle.prd_reader.specs.declared.leaf.Leaf.TheVariants.{Close as CloseLeaf, 
 use Rattle.prd_reader.specs.Canonical.{spelled, closing, var_spelling}
 use Rattle.prd_reader.specs.Leaves.{leaf_of, leaves_from, prefixes_with, is_behind_prefix, is_behind_external, is_behind_carets}
 use Rattle.prd_reader.specs.Values.{place_of}
-use Rattle.std.specs.Prelude.{get_or}
+use Rattle.std.specs.Prelude.{get_or, IsUtf8}
+use Rattle.std.proofs.lemmas.Str.{IsUtf8-append, IsUtf8-from_is_utf8}
 
 abbrev token_of : Spelled → Written
 token_of s = s.token
@@ -28,17 +29,24 @@ abbrev pub begins_carets : List Spelled → Bool
 begins_carets [] = false
 begins_carets (s ∷ ss) = is_carets s.token.kind
 
--- the tokens lead to the leaves, wherever they stand in the canonical spelling
+-- the tokens are of UTF-8
+abbrev pub AreTexts : List Spelled → Type 0
+AreTexts [] = Unit {0}
+AreTexts (s ∷ ss) = IsUtf8 s.token.text × AreTexts ss
+
+-- the tokens are of UTF-8, and lead to the leaves, wherever they stand in the canonical spelling
 pub record Lead (ws : List Spelled) (ls : List Leaf) : Type 0 where
+  pub texts : AreTexts ws
   pub no_type : begins_carets ws ≡ false
   pub leaves : (front : List Leaf) → IsPlain front → leaves_from [] front (map token_of ws) ≡ ls
 
 pub lead : (kind : Kind) (text : List ℕ) (gap : Gap) (rest : List Spelled) (l : Leaf) (ls : List Leaf) →
-    is_carets kind ≡ false →
+    IsUtf8 text → is_carets kind ≡ false →
     ((front : List Leaf) → IsPlain front →
     leaf_of [] front (record { kind = kind; text = text }) (map token_of rest) ≡ l) →
     ((front : List Leaf) → IsPlain (l ∷ front)) → Lead rest ls → Lead (spelled kind text gap ∷ rest) (l ∷ ls)
-lead kind text gap rest l ls no_type is next more = record {
+lead kind text gap rest l ls utf8 no_type is next more = record {
+  texts = (utf8, more.texts);
   no_type = no_type;
   leaves = λ front plain.
       ap (λ (x : Leaf). x ∷ leaves_from (prefixes_with [] front x) (x ∷ front) (map token_of rest)) (is front plain)
@@ -48,13 +56,14 @@ lead kind text gap rest l ls no_type is next more = record {
 
 pub lead_closing : (gap : Gap) (rest : List Spelled) (ls : List Leaf) → Lead rest ls →
     Lead (closing gap ∷ rest) (CloseLeaf ∷ ls)
-lead_closing gap rest ls more = lead Close (codes ")") gap rest CloseLeaf ls refl (λ front plain. refl)
+lead_closing gap rest ls more = lead Close (codes ")") gap rest CloseLeaf ls (IsUtf8-from_is_utf8 (codes ")") refl) refl (λ front plain. refl)
     (λ front. record { no_prefix = refl; no_external = refl; no_carets = refl; undeclared = λ l. refl }) more
 
 pub lead_var : (names : List (List ℕ)) (v : List ℕ) (gap : Gap) (rest : List Spelled) (ls : List Leaf) →
-    get_or names (place_of names v) [] ≡ v → Lead rest ls →
+    get_or names (place_of names v) [] ≡ v → IsUtf8 (get_or names (place_of names v) []) → Lead rest ls →
     Lead (var_spelling names (place_of names v) gap rest) (VarLeaf v ∷ ls)
-lead_var names v gap rest ls at more =
-    lead Var (codes "?" ++ get_or names (place_of names v) []) gap rest (VarLeaf v) ls refl
+lead_var names v gap rest ls at utf8 more =
+    lead Var (codes "?" ++ get_or names (place_of names v) []) gap rest (VarLeaf v) ls
+    (IsUtf8-append (codes "?") (get_or names (place_of names v) []) (IsUtf8-from_is_utf8 (codes "?") refl) utf8) refl
     (λ front plain. ap VarLeaf at)
     (λ front. record { no_prefix = refl; no_external = refl; no_carets = refl; undeclared = λ l. refl }) more
