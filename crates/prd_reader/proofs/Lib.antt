@@ -59,5 +59,12 @@ pub mod CanonicalValueLemmas
 pub mod CanonicalNameLemmas
 pub mod CanonicalRuleLemmas
 pub mod CanonicalDocumentLemmas
-pub mod CanonicalLeavesLemmas
 pub mod CanonicalTextLemmas
+pub mod CanonicalLeavesLemmas
+pub mod ConstantTextLemmas
+pub mod LeadingTokenLemmas
+pub mod LeadingConstantLemmas
+pub mod LeadingTermLemmas
+pub mod LeadingFormulaLemmas
+pub mod LeadingActionLemmas
+pub mod LeadingRuleLemmas

@@ -176,7 +176,7 @@ separate_group p r rest small w h =
       ),
     )
 
-groups_both : (rs ss : List Rule) (rest : List Spelled) →
+pub groups_both : (rs ss : List Rule) (rest : List Spelled) →
     groups_spelling (rs ++ ss) rest ≡ groups_spelling rs (groups_spelling ss rest)
 groups_both [] ss rest = refl
 groups_both (r ∷ rs) ss rest = ap (group_spelling r) (groups_both rs ss rest)
