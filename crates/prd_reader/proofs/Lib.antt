@@ -61,3 +61,13 @@ pub mod CanonicalRuleLemmas
 pub mod CanonicalDocumentLemmas
 pub mod CanonicalLeavesLemmas
 pub mod CanonicalTextLemmas
+pub mod WritableIntegerLemmas
+pub mod WritableTextLemmas
+pub mod WritablePrefixLemmas
+pub mod WritableLiteralLemmas
+pub mod WritableLeafLemmas
+pub mod WritableNameLemmas
+pub mod WritableTermLemmas
+pub mod WritableFormulaLemmas
+pub mod WritableActionLemmas
+pub mod WritableDocumentLemmas
