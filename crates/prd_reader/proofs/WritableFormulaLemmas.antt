@@ -3,8 +3,8 @@ use Rattle.std.proofs.Common.{ℕ, List, [], ◌∷◌, ◌++◌}
 use Rattle.prd_reader.specs.declared.leaf.Leaf.TheVariants.{Open, Close}
 use Rattle.prd_reader.specs.Trees.{const_of_name, spell_const, spell_term, spell_terms, Tail, equals, member_of}
 use Rattle.prd_reader.specs.Trees.{with_pairs, spell_tail, spell_vars, term_of_first, FormulaTree, conj, disj, neg}
-use Rattle.prd_reader.specs.Trees.{some, grouped, holds, compared, atom, spell_formula, FormulaTrees, no_formulas, formulas}
-use Rattle.prd_reader.specs.Trees.{spell_formulas, SuchTrees, last_such, more_such, spell_such}
+use Rattle.prd_reader.specs.Trees.{some, grouped, holds, compared, atom, spell_formula, FormulaTrees, no_formulas}
+use Rattle.prd_reader.specs.Trees.{formulas, spell_formulas, SuchTrees, last_such, more_such, spell_such}
 use Rattle.prd_reader.specs.Writable.{IsWritableTail, IsWritableFormula, AreWritableFormulas, AreWritableSuch}
 use Rattle.prd_reader.specs.WritableLeaves.{ArePlacedLeaves}
 use Rattle.prd_reader.proofs.WritableNameLemmas.{placed_front, placed_back}

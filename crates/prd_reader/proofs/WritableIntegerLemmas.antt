@@ -1,7 +1,6 @@
 -- An integer that is read of a text is one of documents, and its own text stands for it.
-use Rattle.std.proofs.Common.{◌≡◌, ap, refl, ℕ, ◌^◌, ◌<◌, ◌==◌, Bool, true, false, cond, ℤ, pos, negsuc, neg_ℤ}
-use Rattle.std.proofs.Common.{List, ◌∷◌, length, get_or, Some, None, decimal, arith, suc, ◌≢◌}
-use Rattle.std.specs.Prelude.{Option}
+use Rattle.std.proofs.Common.{◌≡◌, ap, refl, ℕ, ◌^◌, ◌<◌, ◌==◌, Bool, true, false, cond, ℤ, pos, negsuc, neg_ℤ, List}
+use Rattle.std.proofs.Common.{◌∷◌, get_or, Some, None, decimal, arith, suc, ◌≢◌}
 use Rattle.std.specs.Fmt.{signed_decimal}
 use Rattle.std.specs.Str.Parse.{digits_value, signed_digits_value}
 use Rattle.std.proofs.lemmas.Bool.Decides.{nat_tests}

@@ -1,6 +1,6 @@
 -- The leaves of tokens can be written so that they are read back.
-use Rattle.std.proofs.Common.{◌≡◌, ℕ, Bool, true, false, cond, List, [], ◌∷◌, length, map, refl, Some, Ok, IsUtf8}
-use Rattle.std.proofs.Common.{bytes_eq, if◌then◌else◌}
+use Rattle.std.proofs.Common.{◌≡◌, ℕ, Bool, true, false, cond, List, [], ◌∷◌, map, refl, Some, Ok, IsUtf8, bytes_eq}
+use Rattle.std.proofs.Common.{if◌then◌else◌}
 use Rattle.std.specs.Prelude.{Option, codes}
 use Rattle.std.specs.List.{AllByRecursion}
 use Rattle.std.proofs.lemmas.List.Elements.{recursion_from_All}
@@ -12,9 +12,9 @@ use Rattle.rif_lex.specs.Lexing.{lexed}
 use Rattle.rif_lex.specs.Spelling.{Written, written, IsToken}
 use Rattle.rif_lex.proofs.FollowLemmas.{forms_are_tokens}
 use Rattle.prd_reader.specs.declared.leaf.Keyword.{Keyword}
-use Rattle.prd_reader.specs.declared.leaf.Keyword.TheVariants.{Document, Prefix, Group, Forall, Such, That, If, Then, Do}
-use Rattle.prd_reader.specs.declared.leaf.Keyword.TheVariants.{New, Assert, Retract, Modify, And, Or, Not, INeg, Exists}
-use Rattle.prd_reader.specs.declared.leaf.Keyword.TheVariants.{External, True, False}
+use Rattle.prd_reader.specs.declared.leaf.Keyword.TheVariants.{Document, Prefix, Group, Forall, Such, That, If, Then}
+use Rattle.prd_reader.specs.declared.leaf.Keyword.TheVariants.{Do, New, Assert, Retract, Modify, And, Or, Not, INeg}
+use Rattle.prd_reader.specs.declared.leaf.Keyword.TheVariants.{Exists, External, True, False}
 use Rattle.prd_reader.specs.declared.leaf.BuiltinName.{BuiltinName}
 use Rattle.prd_reader.specs.declared.leaf.Leaf.{Leaf}
 use Rattle.prd_reader.specs.declared.leaf.Leaf.TheVariants.{Key, LeftOut, Builtin as BuiltinLeaf, Curie as CurieLeaf}
@@ -22,11 +22,10 @@ use Rattle.prd_reader.specs.declared.leaf.Leaf.TheVariants.{Iri as IriLeaf, Type
 use Rattle.prd_reader.specs.Prefixes.{Prefixes}
 use Rattle.prd_reader.specs.Literals.{unescaped}
 use Rattle.prd_reader.specs.Leaves.{builtin_of, curie_iri, inner, is_behind_prefix, is_behind_external}
-use Rattle.prd_reader.specs.Leaves.{is_behind_carets, is_type_name, named_leaf, word_leaf, typed_leaf, string_leaf, leaf_of}
-use Rattle.prd_reader.specs.Leaves.{prefixes_with, leaves_from, leaves_of}
+use Rattle.prd_reader.specs.Leaves.{is_behind_carets, is_type_name, named_leaf, word_leaf, typed_leaf, string_leaf}
+use Rattle.prd_reader.specs.Leaves.{leaf_of, prefixes_with, leaves_from, leaves_of}
 use Rattle.prd_reader.specs.LeafSteps.{IsTokenOf}
-use Rattle.prd_reader.specs.WritableLeaves.{IsWritableLeaf, AreWritableLeaves, AreIriPrefixes}
-use Rattle.prd_reader.specs.WritableLeaves.{IsTextToken, AreTextTokens}
+use Rattle.prd_reader.specs.WritableLeaves.{IsWritableLeaf, AreWritableLeaves, AreIriPrefixes, AreTextTokens}
 use Rattle.prd_reader.proofs.EscapeLemmas.{unescaped_utf8}
 use Rattle.prd_reader.proofs.TokenLemmas.{local_utf8, var_utf8, str_utf8, iri_utf8}
 use Rattle.prd_reader.proofs.LeafLemmas.{tokens_of_input}

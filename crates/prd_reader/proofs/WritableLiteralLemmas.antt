@@ -1,5 +1,5 @@
 -- The literal of a text of UTF-8 can be written.
-use Rattle.std.proofs.Common.{◌≡◌, ◌||◌, ℕ, Bool, true, false, cond, List, [], ◌++◌, refl, Some, None, bytes_eq, IsUtf8}
+use Rattle.std.proofs.Common.{◌≡◌, ◌||◌, ℕ, Bool, true, false, cond, List, ◌++◌, refl, Some, None, bytes_eq, IsUtf8}
 use Rattle.std.specs.Prelude.{Option, codes}
 use Rattle.std.proofs.lemmas.Str.{IsUtf8-nil}
 use Rattle.prd_reader.specs.declared.leaf.Literal.{Literal}

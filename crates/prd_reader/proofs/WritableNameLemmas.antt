@@ -1,9 +1,9 @@
 -- A variable among leaves that can be written has a name that can, at its place in the names of the leaves.
-use Rattle.std.proofs.Common.{◌≡◌, ◌||◌, ℕ, suc, Bool, true, false, List, [], ◌∷◌, ◌++◌, refl, get_or, bytes_eq}
+use Rattle.std.proofs.Common.{◌≡◌, ◌||◌, ℕ, suc, Bool, true, false, List, [], ◌∷◌, ◌++◌, get_or, bytes_eq}
 use Rattle.std.proofs.Common.{if◌then◌else◌}
 use Rattle.prd_reader.specs.declared.leaf.Leaf.{Leaf}
 use Rattle.prd_reader.specs.declared.leaf.Leaf.TheVariants.{Var}
-use Rattle.prd_reader.specs.Values.{has_name, place_of, with_name, names_with, names_from}
+use Rattle.prd_reader.specs.Values.{has_name, place_of, names_with, names_from}
 use Rattle.prd_reader.specs.Writable.{IsNameText, IsWritableVar}
 use Rattle.prd_reader.specs.WritableLeaves.{IsWritableLeaf, AreWritableLeaves, IsPlacedLeaf, ArePlacedLeaves}
 use Rattle.prd_reader.specs.WritableLeaves.{AreNameTexts}

@@ -1,6 +1,6 @@
 -- Texts of tokens that may stand between `<` and `>`, or behind a name's sign.
 use Rattle.std.proofs.Common.{◌≡◌, sym, subst, ap, refl, ℕ, ◌-◌, ◌≤◌, ◌==◌, nat_le, nat_lt, Bool, true, false, cond}
-use Rattle.std.proofs.Common.{suc, zero, List, [], ◌∷◌, ◌++◌, length, take, drop, length-append, append-nil, arith, IsUtf8}
+use Rattle.std.proofs.Common.{suc, zero, List, [], ◌∷◌, ◌++◌, length, drop, length-append, append-nil, arith, IsUtf8}
 use Rattle.std.specs.List.{list_all, AllByRecursion}
 use Rattle.std.specs.Str.{IsAscii}
 use Rattle.std.proofs.lemmas.Bool.{ltb-true}
