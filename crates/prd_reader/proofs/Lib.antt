@@ -68,3 +68,13 @@ pub mod LeadingTermLemmas
 pub mod LeadingFormulaLemmas
 pub mod LeadingActionLemmas
 pub mod LeadingRuleLemmas
+pub mod WritableIntegerLemmas
+pub mod WritableTextLemmas
+pub mod WritablePrefixLemmas
+pub mod WritableLiteralLemmas
+pub mod WritableLeafLemmas
+pub mod WritableNameLemmas
+pub mod WritableTermLemmas
+pub mod WritableFormulaLemmas
+pub mod WritableActionLemmas
+pub mod WritableDocumentLemmas

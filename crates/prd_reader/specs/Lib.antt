@@ -21,3 +21,4 @@ pub mod Writing
 pub mod Writable
 pub mod CanonicalTrees
 pub mod ReadBack
+pub mod WritableLeaves
