@@ -61,3 +61,10 @@ pub mod CanonicalRuleLemmas
 pub mod CanonicalDocumentLemmas
 pub mod CanonicalLeavesLemmas
 pub mod CanonicalTextLemmas
+pub mod SoundLeaves
+pub mod SoundTermLemmas
+pub mod SoundFormulaLemmas
+pub mod SoundRuleLemmas
+pub mod SoundDocumentLemmas
+pub mod FittingLemmas
+pub mod CanonicalClearLemmas
