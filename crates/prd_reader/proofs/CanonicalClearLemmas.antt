@@ -1,10 +1,9 @@
 -- No refusal stands in the canonical tree of a document at which none stood, but for brackets that stand too deep.
-use Rattle.std.proofs.Common.{◌≡◌, ◌≤◌, ◌<◌, ◌+◌, ◌&&◌, ◌||◌, ℕ, suc, zero, Bool, true, false, nat_le, List, [], ◌∷◌}
-use Rattle.std.proofs.Common.{◌++◌, refl, ap, ◌∙◌, sym, subst, arith, length, map, take, get_or, None}
+use Rattle.std.proofs.Common.{◌≡◌, ◌<◌, ◌&&◌, ℕ, suc, zero, false, nat_le, List, [], ◌∷◌, refl, ap, ◌∙◌, sym, subst}
+use Rattle.std.proofs.Common.{arith, length, map, take, get_or, None}
 use Rattle.std.proofs.lemmas.Bool.{or_from, or_parts}
 use Rattle.rif_terms.specs.declared.limits.TheConstants.{MOST_RULES}
 use Rattle.rif_terms.specs.declared.rule.Rule.{Rule}
-use Rattle.rif_terms.specs.declared.rule.Doc.{Doc}
 use Rattle.prd_reader.specs.declared.leaf.Leaf.{Leaf}
 use Rattle.prd_reader.specs.declared.progress.Bracket.{Bracket}
 use Rattle.prd_reader.specs.Limits.{KeepsLimits, KeepRuleLimits}
@@ -22,8 +21,8 @@ use Rattle.prd_reader.proofs.CountingLimitLemmas.{Clear, clear_from, KeepTallies
 use Rattle.prd_reader.proofs.CountingLimitLemmas.{rules_counted}
 use Rattle.prd_reader.proofs.CountingPriorityLemmas.{document_in_range}
 use Rattle.prd_reader.proofs.CanonicalDocumentLemmas.{same_document}
-use Rattle.prd_reader.proofs.FittingLemmas.{Fits, let_pass, all_fit}
-use Rattle.prd_reader.proofs.SoundLeaves.{Sound, is_amiss, brackets_behind, same_brackets}
+use Rattle.prd_reader.proofs.FittingLemmas.{AreFitting, let_pass, all_fit}
+use Rattle.prd_reader.proofs.SoundLeaves.{AreSound, is_amiss, same_brackets}
 use Rattle.prd_reader.proofs.SoundDocumentLemmas.{document_sound}
 
 -- a leaf without a refusal is sound
@@ -45,12 +44,12 @@ nothing_amiss p l h =
     (test_of_if (is_bad_priority p.in_head l) _ _ h7))))))
 
 -- no bracket is opened too deep among leaves behind a progress
-abbrev Shallow : Progress → List Leaf → Type 0
-Shallow p [] = Unit {0}
-Shallow p (l ∷ ls) = (is_too_deep p.brackets l ≡ false) × Shallow (progress_with p l) ls
+abbrev AreShallow : Progress → List Leaf → Type 0
+AreShallow p [] = Unit {0}
+AreShallow p (l ∷ ls) = (is_too_deep p.brackets l ≡ false) × AreShallow (progress_with p l) ls
 
 shallow_behind : (ls : List Leaf) (p : Progress) → ((i : ℕ) (d : Leaf) → i < length ls →
-    is_too_deep (progress_from p (take i ls)).brackets (get_or ls i d) ≡ false) → Shallow p ls
+    is_too_deep (progress_from p (take i ls)).brackets (get_or ls i d) ≡ false) → AreShallow p ls
 shallow_behind [] p h = tt
 shallow_behind (l ∷ ls) p h =
     (h 0 l (omega arith), shallow_behind ls (progress_with p l) (λ i d below. h (suc i) d (omega arith)))
@@ -77,23 +76,23 @@ no_cause p l sound shallow rules none =
     (let_pass (is_new_rule p l && nat_le MOST_RULES p.rules) _ _ rules none))))))))
 
 -- leaves behind a progress, as the walk by the brackets alone sees them
-abbrev SoundBehind : Progress → List Leaf → Type 0
-SoundBehind p ls = Sound p.brackets (opened p.last) p.in_head ls
+abbrev AreSoundBehind : Progress → List Leaf → Type 0
+AreSoundBehind p ls = AreSound p.brackets (opened p.last) p.in_head ls
 
-clear_sound : (ls : List Leaf) (p : Progress) → Clear p ls → SoundBehind p ls
+clear_sound : (ls : List Leaf) (p : Progress) → Clear p ls → AreSoundBehind p ls
 clear_sound [] p clear = tt
 clear_sound (l ∷ ls) p clear = (
   nothing_amiss p l clear.0,
-  subst (λ (bs : List Bracket). Sound bs (opened l) (progress_with p l).in_head ls)
+  subst (λ (bs : List Bracket). AreSound bs (opened l) (progress_with p l).in_head ls)
       (same_brackets p.brackets p.last l) (clear_sound ls (progress_with p l) clear.1),
 )
 
-sound_clear : (ls : List Leaf) (p : Progress) → SoundBehind p ls → Shallow p ls → Fits p ls → Clear p ls
+sound_clear : (ls : List Leaf) (p : Progress) → AreSoundBehind p ls → AreShallow p ls → AreFitting p ls → Clear p ls
 sound_clear [] p sound shallow fits = tt
 sound_clear (l ∷ ls) p sound shallow fits = (
   no_cause p l sound.0 shallow.0 fits.0 fits.1.0,
   sound_clear ls (progress_with p l)
-      (subst (λ (bs : List Bracket). Sound bs (opened l) (progress_with p l).in_head ls)
+      (subst (λ (bs : List Bracket). AreSound bs (opened l) (progress_with p l).in_head ls)
       (sym (same_brackets p.brackets p.last l)) sound.1) shallow.1 fits.1.1,
 )
 
@@ -112,7 +111,7 @@ rules_tallied (r ∷ rs) keep = (
 )
 
 -- a document that keeps the limits has nothing too many anywhere
-document_fits : (t : DocumentTree) → KeepsLimits (document_value t) → Fits at_start (spell_document t)
+document_fits : (t : DocumentTree) → KeepsLimits (document_value t) → AreFitting at_start (spell_document t)
 document_fits t limits =
     let ls = spell_document t in
     let rs = (document_value t).rules in

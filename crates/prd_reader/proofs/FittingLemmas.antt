@@ -1,13 +1,11 @@
 -- Where each rule keeps the limits where it ends, nothing was too many at a leaf before.
---     Fits p ls      at none of these leaves there is one rule, name, pattern or action too many
+--     AreFitting p ls      at none of these leaves there is one rule, name, pattern or action too many
 use Rattle.std.proofs.Common.{◌≡◌, ◌≤◌, ◌&&◌, ℕ, suc, Bool, true, false, not, nat_le, List, [], ◌∷◌, ◌++◌, refl, sym}
 use Rattle.std.proofs.Common.{subst, arith, length, length-append, Some, None, if◌then◌else◌}
 use Rattle.std.proofs.lemmas.Bool.{and_left, and_right, lt-leb}
 use Rattle.std.specs.declared.option.Option.{Option}
 use Rattle.rif_terms.specs.declared.limits.TheConstants.{MOST_RULES, MOST_VARIABLES, MOST_PATTERNS, MOST_ACTIONS}
-use Rattle.rif_terms.specs.declared.refusal.Counted.TheVariants.{Variables, Patterns, Actions}
 use Rattle.prd_reader.specs.declared.cause.Cause.{Cause}
-use Rattle.prd_reader.specs.declared.cause.Cause.TheVariants.{TooMany}
 use Rattle.prd_reader.specs.declared.leaf.Leaf.{Leaf}
 use Rattle.prd_reader.specs.declared.leaf.Leaf.TheVariants.{Var, Close}
 use Rattle.prd_reader.specs.declared.progress.Bracket.{Bracket}
@@ -18,10 +16,10 @@ use Rattle.prd_reader.specs.Values.{has_name, names_with}
 use Rattle.prd_reader.proofs.CountingFoldLemmas.{Tally, tally_of, tally_ended, tallies}
 use Rattle.prd_reader.proofs.CountingLimitLemmas.{KeepsTally, KeepsNow, KeepTallies}
 
-abbrev pub Fits : Progress → List Leaf → Type 0
-Fits p [] = Unit {0}
-Fits p (l ∷ ls) = ((is_new_rule p l && nat_le MOST_RULES p.rules) ≡ false)
-    × ((cause_in_rule p.named (rule_at p l) l ≡ None) × Fits (progress_with p l) ls)
+abbrev pub AreFitting : Progress → List Leaf → Type 0
+AreFitting p [] = Unit {0}
+AreFitting p (l ∷ ls) = ((is_new_rule p l && nat_le MOST_RULES p.rules) ≡ false)
+    × ((cause_in_rule p.named (rule_at p l) l ≡ None) × AreFitting (progress_with p l) ls)
 
 -- a test that lets pass
 pub let_pass : (b : Bool) (x : Cause) (rest : Option Cause) → b ≡ false → rest ≡ None →
@@ -138,7 +136,7 @@ rules_grow (l ∷ ls) p most =
     was_at_most (is_new_rule p l) p.rules MOST_RULES (rules_grow ls (progress_with p l) most)
 
 pub all_fit : (ls : List Leaf) (p : Progress) → KeepTallies (tallies p ls) → (progress_from p ls).rule ≡ None →
-    (progress_from p ls).rules ≤ MOST_RULES → Fits p ls
+    (progress_from p ls).rules ≤ MOST_RULES → AreFitting p ls
 all_fit [] p keep none most = tt
 all_fit (l ∷ ls) p keep none most =
     let next = progress_with p l in

@@ -1,6 +1,5 @@
 -- Where a document is sound, its canonical tree is.
-use Rattle.std.proofs.Common.{◌≡◌, ◌≤ℤ◌, ◌&&◌, ℤ, pos, neg_ℤ, int_le, not, Bool, true, false, List, [], ◌∷◌, ◌++◌, refl}
-use Rattle.std.proofs.Common.{arith, Some}
+use Rattle.std.proofs.Common.{◌≡◌, ◌≤ℤ◌, ℤ, pos, neg_ℤ, int_le, true, false, List, [], ◌∷◌, ◌++◌, refl, arith}
 use Rattle.std.proofs.lemmas.Bool.{and_from, not_from_true}
 use Rattle.std.proofs.lemmas.Int.{ints}
 use Rattle.rif_terms.specs.declared.limits.TheConstants.{MOST_PRIORITY}
@@ -19,7 +18,7 @@ use Rattle.prd_reader.specs.Values.{priority_in, group_rules, member_rules, rule
 use Rattle.prd_reader.specs.CanonicalTrees.{canonical_rule, canonical_member, canonical_group, canonical_members}
 use Rattle.prd_reader.specs.CanonicalTrees.{around_members, canonical_prefixes, canonical_document}
 use Rattle.prd_reader.proofs.CountingPriorityLemmas.{InRange, AreInRange}
-use Rattle.prd_reader.proofs.SoundLeaves.{Sound, regrouped, grouped_back}
+use Rattle.prd_reader.proofs.SoundLeaves.{AreSound, regrouped, grouped_back}
 use Rattle.prd_reader.proofs.SoundRuleLemmas.{rule_sound}
 
 at_most_is : (a b : ℤ) → a ≤ℤ b → int_le a b ≡ true
@@ -39,19 +38,19 @@ rest_in_range (r ∷ rs) more ok = rest_in_range rs more ok.1
 
 -- a group's head says nothing of what stands behind it
 behind_strategy : (s : StrategyTree) (bs : List Bracket) (ls : List Leaf) →
-    Sound (Plain ∷ bs) Plain true (spell_strategy s ++ ls) → Sound (Plain ∷ bs) Plain true ls
+    AreSound (Plain ∷ bs) Plain true (spell_strategy s ++ ls) → AreSound (Plain ∷ bs) Plain true ls
 behind_strategy no_strategy bs ls sound = sound
 behind_strategy (strategy_iri t) bs ls sound = sound.1
 behind_strategy (strategy_curie t) bs ls sound = sound.1
 
 behind_priority : (q : PriorityTree) (bs : List Bracket) (ls : List Leaf) →
-    Sound (Plain ∷ bs) Plain true (spell_priority q ++ ls) → Sound (Plain ∷ bs) Plain true ls
+    AreSound (Plain ∷ bs) Plain true (spell_priority q ++ ls) → AreSound (Plain ∷ bs) Plain true ls
 behind_priority no_priority bs ls sound = sound
 behind_priority (priority z) bs ls sound = sound.1
 
 behind_head : (s : StrategyTree) (q : PriorityTree) (ms : MemberTrees) (bs : List Bracket) (rest : List Leaf) →
-    Sound (Plain ∷ bs) Plain false (spell_group (group s q ms) ++ rest) →
-    Sound (Plain ∷ Plain ∷ bs) Plain false (spell_members ms ++ rest)
+    AreSound (Plain ∷ bs) Plain false (spell_group (group s q ms) ++ rest) →
+    AreSound (Plain ∷ Plain ∷ bs) Plain false (spell_members ms ++ rest)
 behind_head s q ms bs rest sound =
     let members = Open ∷ spell_members ms in
     let behind = behind_strategy s bs ((spell_priority q ++ members) ++ rest)
@@ -62,13 +61,13 @@ behind_head s q ms bs rest sound =
 -- what the members of a group come to in a canonical tree, before others
 abbrev AddsMembers : (MemberTrees → MemberTrees) → Type 0
 AddsMembers before = (cs : List Bracket) (others : MemberTrees) (more : List Leaf) →
-    Sound (Plain ∷ cs) Plain false (spell_members others ++ more) →
-    Sound (Plain ∷ cs) Plain false (spell_members (before others) ++ more)
+    AreSound (Plain ∷ cs) Plain false (spell_members others ++ more) →
+    AreSound (Plain ∷ cs) Plain false (spell_members (before others) ++ more)
 
 -- a rule in a group of its own, before others
 alone_sound : (z : ℤ) (r : RuleTree) → InRange z →
-    ((cs : List Bracket) (more : List Leaf) → Sound (Plain ∷ cs) Plain false more →
-    Sound (Plain ∷ cs) Plain false (spell_rule (canonical_rule r) ++ more)) →
+    ((cs : List Bracket) (more : List Leaf) → AreSound (Plain ∷ cs) Plain false more →
+    AreSound (Plain ∷ cs) Plain false (spell_rule (canonical_rule r) ++ more)) →
     AddsMembers (group_member (canonical_member z r))
 alone_sound z r ok adds cs others more sound =
     let rule = spell_rule (canonical_rule r) in
@@ -80,15 +79,15 @@ alone_sound z r ok adds cs others more sound =
 
 mutual
   group_sound : (g : GroupTree) (z : ℤ) (bs : List Bracket) (rest : List Leaf) →
-      Sound (Plain ∷ bs) Plain false (spell_group g ++ rest) → AreInRange (group_rules z g) →
-      Sound (Plain ∷ bs) Plain false rest × AddsMembers (canonical_group z g)
+      AreSound (Plain ∷ bs) Plain false (spell_group g ++ rest) → AreInRange (group_rules z g) →
+      AreSound (Plain ∷ bs) Plain false rest × AddsMembers (canonical_group z g)
   group_sound (group s q ms) z bs rest sound ok =
       members_sound ms (priority_in z q) (Plain ∷ bs) rest (behind_head s q ms bs rest sound) ok
 
   -- with the bracket behind them
   members_sound : (ms : MemberTrees) (z : ℤ) (bs : List Bracket) (rest : List Leaf) →
-      Sound (Plain ∷ bs) Plain false (spell_members ms ++ rest) → AreInRange (member_rules z ms) →
-      Sound bs Plain false rest × AddsMembers (canonical_members z ms)
+      AreSound (Plain ∷ bs) Plain false (spell_members ms ++ rest) → AreInRange (member_rules z ms) →
+      AreSound bs Plain false rest × AddsMembers (canonical_members z ms)
   members_sound no_members z bs rest sound ok = (sound.1, λ cs others more t. t)
   members_sound (rule_member r ms) z bs rest sound ok =
       let a = (rule_sound r).goes bs (spell_members ms ++ rest)
@@ -103,20 +102,20 @@ mutual
       let b = members_sound ms z bs rest a.0 (rest_in_range (group_rules z g) (member_rules z ms) ok) in
       (b.0, λ cs others more t. a.1 cs (canonical_members z ms others) more (b.1 cs others more t))
 
-around_sound : (ms : MemberTrees) → Sound (Plain ∷ Plain ∷ []) Plain false (spell_members ms ++ Close ∷ []) →
-    Sound (Plain ∷ []) Plain false (spell_prefixes (around_members ms))
+around_sound : (ms : MemberTrees) → AreSound (Plain ∷ Plain ∷ []) Plain false (spell_members ms ++ Close ∷ []) →
+    AreSound (Plain ∷ []) Plain false (spell_prefixes (around_members ms))
 around_sound no_members sound = (refl, tt)
 around_sound (rule_member r ms) sound = (refl, (refl, sound))
 around_sound (group_member g ms) sound = (refl, (refl, sound))
 
-prefixes_sound : (ps : PrefixTrees) → Sound (Plain ∷ []) Plain false (spell_prefixes ps) →
-    AreInRange (rules_behind ps) → Sound (Plain ∷ []) Plain false (spell_prefixes (canonical_prefixes ps))
+prefixes_sound : (ps : PrefixTrees) → AreSound (Plain ∷ []) Plain false (spell_prefixes ps) →
+    AreInRange (rules_behind ps) → AreSound (Plain ∷ []) Plain false (spell_prefixes (canonical_prefixes ps))
 prefixes_sound no_group sound ok = sound
 prefixes_sound (one_group g) sound ok =
     around_sound (canonical_group (pos 0) g no_members)
     ((group_sound g (pos 0) [] (Close ∷ []) sound ok).1 (Plain ∷ []) no_members (Close ∷ []) (refl, (refl, tt)))
 prefixes_sound (prefix name iri ps) sound ok = prefixes_sound ps sound.1.1.1.1.1 ok
 
-pub document_sound : (t : DocumentTree) → Sound [] Plain false (spell_document t) →
-    AreInRange (document_value t).rules → Sound [] Plain false (spell_document (canonical_document t))
+pub document_sound : (t : DocumentTree) → AreSound [] Plain false (spell_document t) →
+    AreInRange (document_value t).rules → AreSound [] Plain false (spell_document (canonical_document t))
 document_sound (document ps) sound ok = (refl, (refl, prefixes_sound ps sound.1.1 ok))

@@ -1,10 +1,9 @@
 -- Where a formula is sound, its canonical tree is.
-use Rattle.std.proofs.Common.{◌≡◌, Bool, true, false, List, [], ◌∷◌, ◌++◌, refl}
+use Rattle.std.proofs.Common.{◌≡◌, true, false, List, [], ◌∷◌, refl}
 use Rattle.prd_reader.specs.declared.leaf.Keyword.TheVariants.{And, Or, Not, Exists}
 use Rattle.prd_reader.specs.declared.leaf.Builtin.TheVariants.{Pred as PredBuiltin}
 use Rattle.prd_reader.specs.declared.leaf.Leaf.{Leaf}
 use Rattle.prd_reader.specs.declared.leaf.Leaf.TheVariants.{Key, Var, Equal, Hash}
-use Rattle.prd_reader.specs.declared.progress.Bracket.{Bracket}
 use Rattle.prd_reader.specs.declared.progress.Bracket.TheVariants.{Plain}
 use Rattle.prd_reader.specs.Trees.{NameTree, name_iri, name_curie, name_local, name_typed_iri, name_typed_local}
 use Rattle.prd_reader.specs.Trees.{spell_name, Tail, equals, member_of, with_pairs, spell_tail, Vars, one_var}
@@ -15,13 +14,13 @@ use Rattle.prd_reader.specs.Trees.{disj, neg, some, grouped, holds, compared, at
 use Rattle.prd_reader.specs.Trees.{spell_formula, spell_formulas}
 use Rattle.prd_reader.specs.CanonicalTrees.{canonical_name, canonical_first, canonical_tail, canonical_formula}
 use Rattle.prd_reader.specs.CanonicalTrees.{canonical_formulas}
-use Rattle.prd_reader.proofs.SoundLeaves.{StaysSound, plain, as_they_are, both, inside, leaf, opens, opens_square}
+use Rattle.prd_reader.proofs.SoundLeaves.{StaySound, plain, as_they_are, both, inside, leaf, opens, opens_square}
 use Rattle.prd_reader.proofs.SoundLeaves.{closes, in_brackets, out_of_brackets}
 use Rattle.prd_reader.proofs.SoundTermLemmas.{const_sound, plain_term, arguments_sound, terms_sound, pairs_sound}
 
 -- in a bracket of any but a built-in's
 abbrev pub InPlain : List Leaf → List Leaf → Type 0
-InPlain = StaysSound plain plain
+InPlain = StaySound plain plain
 
 pub name_sound : (n : NameTree) → InPlain (spell_name n) (spell_name (canonical_name n))
 name_sound (name_iri x) = record { goes = λ bs rest s. (s.1, λ cs more t. (refl, t)) }
@@ -71,6 +70,6 @@ mutual
 
   -- with the bracket behind them
   pub formulas_sound : (fs : FormulaTrees) →
-      StaysSound plain as_they_are (spell_formulas fs) (spell_formulas (canonical_formulas fs))
+      StaySound plain as_they_are (spell_formulas fs) (spell_formulas (canonical_formulas fs))
   formulas_sound no_formulas = closes
   formulas_sound (formulas f fs) = both (formula_sound f) (formulas_sound fs)

@@ -1,7 +1,7 @@
 -- Leaves at which nothing is amiss, as far as the leaf, the innermost bracket and the head of a group tell: neither how
 -- deep brackets stand nor what has been counted.
---     Sound brackets next in_head ls         nothing is amiss at these leaves; `next` is the bracket that would open
---     StaysSound before behind ls ms         where ls are sound, ms are, each with what these make of the brackets
+--     AreSound brackets next in_head ls    nothing is amiss at these leaves; `next` is the bracket that would open
+--     StaySound before behind ls ms        where ls are sound, ms are, each with what these make of the brackets
 use Rattle.std.proofs.Common.{◌≡◌, ◌||◌, Bool, true, false, List, [], ◌∷◌, ◌++◌, refl, sym, subst, append_assoc}
 use Rattle.std.specs.Prelude.{if◌then◌else◌}
 use Rattle.prd_reader.specs.declared.leaf.Keyword.TheVariants.{Group}
@@ -34,24 +34,25 @@ same_brackets bs last Close = refl
 same_brackets bs last CloseSquare = refl
 same_brackets bs last l = refl
 
-abbrev pub Sound : List Bracket → Bracket → Bool → List Leaf → Type 0
-Sound brackets next in_head [] = Unit {0}
-Sound brackets next in_head (l ∷ ls) =
-    (is_amiss brackets in_head l ≡ false) × Sound (brackets_behind brackets next l) (opened l) (head_with in_head l) ls
+abbrev pub AreSound : List Bracket → Bracket → Bool → List Leaf → Type 0
+AreSound brackets next in_head [] = Unit {0}
+AreSound brackets next in_head (l ∷ ls) =
+    (is_amiss brackets in_head l ≡ false)
+    × AreSound (brackets_behind brackets next l) (opened l) (head_with in_head l) ls
 
 pub regrouped : (bs : List Bracket) (next : Bracket) (h : Bool) (xs ys zs : List Leaf) →
-    Sound bs next h ((xs ++ ys) ++ zs) → Sound bs next h (xs ++ (ys ++ zs))
-regrouped bs next h xs ys zs = subst (Sound bs next h) (append_assoc xs ys zs)
+    AreSound bs next h ((xs ++ ys) ++ zs) → AreSound bs next h (xs ++ (ys ++ zs))
+regrouped bs next h xs ys zs = subst (AreSound bs next h) (append_assoc xs ys zs)
 
 pub grouped_back : (bs : List Bracket) (next : Bracket) (h : Bool) (xs ys zs : List Leaf) →
-    Sound bs next h (xs ++ (ys ++ zs)) → Sound bs next h ((xs ++ ys) ++ zs)
-grouped_back bs next h xs ys zs = subst (Sound bs next h) (sym (append_assoc xs ys zs))
+    AreSound bs next h (xs ++ (ys ++ zs)) → AreSound bs next h ((xs ++ ys) ++ zs)
+grouped_back bs next h xs ys zs = subst (AreSound bs next h) (sym (append_assoc xs ys zs))
 
-pub record StaysSound (before behind : List Bracket → List Bracket) (ls ms : List Leaf) : Type 0 where
-  pub goes : (bs : List Bracket) (rest : List Leaf) → Sound (before bs) Plain false (ls ++ rest) →
-      Sound (behind bs) Plain false rest
-      × ((cs : List Bracket) (more : List Leaf) → Sound (behind cs) Plain false more →
-      Sound (before cs) Plain false (ms ++ more))
+pub record StaySound (before behind : List Bracket → List Bracket) (ls ms : List Leaf) : Type 0 where
+  pub goes : (bs : List Bracket) (rest : List Leaf) → AreSound (before bs) Plain false (ls ++ rest) →
+      AreSound (behind bs) Plain false rest
+      × ((cs : List Bracket) (more : List Leaf) → AreSound (behind cs) Plain false more →
+      AreSound (before cs) Plain false (ms ++ more))
 
 -- inside one bracket, and as the brackets are
 abbrev pub plain : List Bracket → List Bracket
@@ -61,8 +62,8 @@ abbrev pub as_they_are : List Bracket → List Bracket
 as_they_are bs = bs
 
 -- one behind the other
-pub both : {f g k : List Bracket → List Bracket} {ls ms ns os : List Leaf} → StaysSound f g ls ms →
-    StaysSound g k ns os → StaysSound f k (ls ++ ns) (ms ++ os)
+pub both : {f g k : List Bracket → List Bracket} {ls ms ns os : List Leaf} → StaySound f g ls ms →
+    StaySound g k ns os → StaySound f k (ls ++ ns) (ms ++ os)
 both {f} {g} {k} {ls} {ms} {ns} {os} first more = record {
   goes = λ bs rest s.
       let a = first.goes bs (ns ++ rest) (regrouped (f bs) Plain false ls ns rest s) in
@@ -72,21 +73,21 @@ both {f} {g} {k} {ls} {ms} {ns} {os} first more = record {
 
 -- where more brackets are open
 pub inside : {f g : List Bracket → List Bracket} {ls ms : List Leaf} (k : List Bracket → List Bracket) →
-    StaysSound f g ls ms → StaysSound (λ bs. f (k bs)) (λ bs. g (k bs)) ls ms
+    StaySound f g ls ms → StaySound (λ bs. f (k bs)) (λ bs. g (k bs)) ls ms
 inside {f} {g} {ls} {ms} k step = record {
   goes = λ bs rest s. let a = step.goes (k bs) rest s in (a.0, λ cs more t. a.1 (k cs) more t);
 }
 
-pub opens : StaysSound as_they_are plain (Open ∷ []) (Open ∷ [])
+pub opens : StaySound as_they_are plain (Open ∷ []) (Open ∷ [])
 opens = record { goes = λ bs rest s. (s.1, λ cs more t. (refl, t)) }
 
-pub opens_square : StaysSound as_they_are plain (OpenSquare ∷ []) (OpenSquare ∷ [])
+pub opens_square : StaySound as_they_are plain (OpenSquare ∷ []) (OpenSquare ∷ [])
 opens_square = record { goes = λ bs rest s. (s.1, λ cs more t. (refl, t)) }
 
-pub closes : StaysSound plain as_they_are (Close ∷ []) (Close ∷ [])
+pub closes : StaySound plain as_they_are (Close ∷ []) (Close ∷ [])
 closes = record { goes = λ bs rest s. (s.1, λ cs more t. (refl, t)) }
 
-pub closes_square : StaysSound plain as_they_are (CloseSquare ∷ []) (CloseSquare ∷ [])
+pub closes_square : StaySound plain as_they_are (CloseSquare ∷ []) (CloseSquare ∷ [])
 closes_square = record { goes = λ bs rest s. (s.1, λ cs more t. (refl, t)) }
 
 -- a leaf that neither opens nor closes a bracket, and at which nothing can be amiss
@@ -99,7 +100,7 @@ is_quiet Hash = true
 is_quiet Arrow = true
 is_quiet _ = false
 
-pub leaf : (l : Leaf) → is_quiet l ≡ true → StaysSound plain plain (l ∷ []) (l ∷ [])
+pub leaf : (l : Leaf) → is_quiet l ≡ true → StaySound plain plain (l ∷ []) (l ∷ [])
 leaf (Key Group) e = absurd (cc)
 leaf (Key k) e = record { goes = λ bs rest s. (s.1, λ cs more t. (refl, t)) }
 leaf (Var v) e = record { goes = λ bs rest s. (s.1, λ cs more t. (refl, t)) }
@@ -109,13 +110,13 @@ leaf Arrow e = record { goes = λ bs rest s. (s.1, λ cs more t. (refl, t)) }
 leaf l e = absurd (cc)
 
 -- what stands in brackets
-pub in_brackets : {ls ms : List Leaf} → StaysSound plain plain ls ms →
-    StaysSound plain plain (Open ∷ (ls ++ Close ∷ [])) (Open ∷ (ms ++ Close ∷ []))
+pub in_brackets : {ls ms : List Leaf} → StaySound plain plain ls ms →
+    StaySound plain plain (Open ∷ (ls ++ Close ∷ [])) (Open ∷ (ms ++ Close ∷ []))
 in_brackets step = both (inside plain opens) (both (inside plain step) (inside plain closes))
 
 -- what stood in brackets, and now stands without
-pub out_of_brackets : {ls ms : List Leaf} → StaysSound plain plain ls ms →
-    StaysSound plain plain (Open ∷ (ls ++ Close ∷ [])) ms
+pub out_of_brackets : {ls ms : List Leaf} → StaySound plain plain ls ms →
+    StaySound plain plain (Open ∷ (ls ++ Close ∷ [])) ms
 out_of_brackets {ls} {ms} step = record {
   goes = λ bs rest s.
       let inner = regrouped (Plain ∷ Plain ∷ bs) Plain false ls (Close ∷ []) rest s.1 in

@@ -1,10 +1,8 @@
 -- Where a rule is sound, its canonical tree is.
-use Rattle.std.proofs.Common.{List, [], ◌∷◌, ◌++◌, refl}
+use Rattle.std.proofs.Common.{◌∷◌, refl}
 use Rattle.prd_reader.specs.declared.leaf.Keyword.TheVariants.{Forall, Such, That, If, Then, Do, New, Assert, Retract}
 use Rattle.prd_reader.specs.declared.leaf.Keyword.TheVariants.{Modify}
-use Rattle.prd_reader.specs.declared.leaf.Leaf.{Leaf}
-use Rattle.prd_reader.specs.declared.leaf.Leaf.TheVariants.{Key, Var, Open, Close, Hash, Arrow}
-use Rattle.prd_reader.specs.declared.progress.Bracket.{Bracket}
+use Rattle.prd_reader.specs.declared.leaf.Leaf.TheVariants.{Key, Var, Open, Hash, Arrow}
 use Rattle.prd_reader.specs.Trees.{TargetTree, target_member, target_frame, target_atom, spell_target, ActionTree}
 use Rattle.prd_reader.specs.Trees.{assert, retract, retract_slot, retract_object, modify, spell_action, ActionTrees}
 use Rattle.prd_reader.specs.Trees.{last_action, actions, spell_actions, BlockTree, acts, new_object, slot_value}
@@ -12,7 +10,7 @@ use Rattle.prd_reader.specs.Trees.{spell_block, SuchTrees, last_such, more_such,
 use Rattle.prd_reader.specs.Trees.{for_all_such, if_then, block, spell_rule}
 use Rattle.prd_reader.specs.CanonicalTrees.{canonical_target, canonical_action, canonical_actions, canonical_block}
 use Rattle.prd_reader.specs.CanonicalTrees.{canonical_such, canonical_rule}
-use Rattle.prd_reader.proofs.SoundLeaves.{StaysSound, plain, as_they_are, both, inside, leaf, opens, opens_square}
+use Rattle.prd_reader.proofs.SoundLeaves.{StaySound, plain, as_they_are, both, inside, leaf, opens, opens_square}
 use Rattle.prd_reader.proofs.SoundLeaves.{closes, closes_square, in_brackets}
 use Rattle.prd_reader.proofs.SoundTermLemmas.{plain_term, terms_sound, pairs_sound}
 use Rattle.prd_reader.proofs.SoundFormulaLemmas.{InPlain, name_sound, vars_sound, formula_sound}
@@ -35,12 +33,12 @@ action_sound (modify o ps) = both (leaf (Key Modify) refl) (both (inside plain o
 
 -- with the bracket behind them
 actions_sound : (all : ActionTrees) →
-    StaysSound plain as_they_are (spell_actions all) (spell_actions (canonical_actions all))
+    StaySound plain as_they_are (spell_actions all) (spell_actions (canonical_actions all))
 actions_sound (last_action a) = both (action_sound a) closes
 actions_sound (actions a more) = both (action_sound a) (actions_sound more)
 
 -- with the bracket behind it
-block_sound : (b : BlockTree) → StaysSound plain as_they_are (spell_block b) (spell_block (canonical_block b))
+block_sound : (b : BlockTree) → StaySound plain as_they_are (spell_block b) (spell_block (canonical_block b))
 block_sound (acts all) = actions_sound all
 block_sound (new_object v b) = both (inside plain opens) (both (inside plain (leaf (Var v) refl))
     (both (inside plain (leaf (Key New) refl)) (both (inside plain (inside plain opens))
@@ -53,7 +51,7 @@ block_sound (slot_value v o s b) = both (inside plain opens) (both (inside plain
 
 -- with the bracket behind them
 such_sound : (fs : SuchTrees) →
-    StaysSound plain (λ bs. plain (plain bs)) (spell_such fs) (spell_such (canonical_such fs))
+    StaySound plain (λ bs. plain (plain bs)) (spell_such fs) (spell_such (canonical_such fs))
 such_sound (last_such f) = both (formula_sound f) (inside plain opens)
 such_sound (more_such f fs) = both (formula_sound f) (such_sound fs)
 
