@@ -140,8 +140,7 @@ pub all_fit : (ls : List Leaf) (p : Progress) → KeepTallies (tallies p ls) →
 all_fit [] p keep none most = tt
 all_fit (l ∷ ls) p keep none most =
     let next = progress_with p l in
-    let rest = rest_keep (tally_ended p l) (tallies next ls) keep in
-    (
+    let rest = rest_keep (tally_ended p l) (tallies next ls) keep in (
       was_below (is_new_rule p l) p.rules MOST_RULES (rules_grow ls next most),
       (fits_here (rule_at p l) p.brackets p.named l (kept_now ls next rest none), all_fit ls next rest none most),
     )

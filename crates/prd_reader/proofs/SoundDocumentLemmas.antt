@@ -72,10 +72,10 @@ alone_sound : (z : ℤ) (r : RuleTree) → InRange z →
 alone_sound z r ok adds cs others more sound =
     let rule = spell_rule (canonical_rule r) in
     let rest = spell_members others in
-    (refl, (not_from_true (is_priority z) (is_in_range z ok), (refl,
-    grouped_back (Plain ∷ Plain ∷ cs) Plain false (rule ++ Close ∷ []) rest more
+    let inner = grouped_back (Plain ∷ Plain ∷ cs) Plain false (rule ++ Close ∷ []) rest more
     (grouped_back (Plain ∷ Plain ∷ cs) Plain false rule (Close ∷ []) (rest ++ more)
-    (adds (Plain ∷ cs) (Close ∷ (rest ++ more)) (refl, sound))))))
+    (adds (Plain ∷ cs) (Close ∷ (rest ++ more)) (refl, sound))) in
+    (refl, (not_from_true (is_priority z) (is_in_range z ok), (refl, inner)))
 
 mutual
   group_sound : (g : GroupTree) (z : ℤ) (bs : List Bracket) (rest : List Leaf) →
@@ -93,8 +93,8 @@ mutual
       let a = (rule_sound r).goes bs (spell_members ms ++ rest)
       (regrouped (Plain ∷ bs) Plain false (spell_rule r) (spell_members ms) rest sound) in
       let b = members_sound ms z bs rest a.0 ok.1 in
-      (b.0, λ cs others more t.
-      alone_sound z r ok.0 a.1 cs (canonical_members z ms others) more (b.1 cs others more t))
+      let adds = alone_sound z r ok.0 a.1 in
+      (b.0, λ cs others more t. adds cs (canonical_members z ms others) more (b.1 cs others more t))
   members_sound (group_member g ms) z bs rest sound ok =
       let a = group_sound g z bs (spell_members ms ++ rest)
       (regrouped (Plain ∷ bs) Plain false (spell_group g) (spell_members ms) rest sound)
