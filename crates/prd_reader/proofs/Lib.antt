@@ -78,3 +78,10 @@ pub mod WritableTermLemmas
 pub mod WritableFormulaLemmas
 pub mod WritableActionLemmas
 pub mod WritableDocumentLemmas
+pub mod SoundLeaves
+pub mod SoundTermLemmas
+pub mod SoundFormulaLemmas
+pub mod SoundRuleLemmas
+pub mod SoundDocumentLemmas
+pub mod FittingLemmas
+pub mod CanonicalClearLemmas
