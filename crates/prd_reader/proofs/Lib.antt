@@ -85,3 +85,4 @@ pub mod SoundRuleLemmas
 pub mod SoundDocumentLemmas
 pub mod FittingLemmas
 pub mod CanonicalClearLemmas
+pub mod ReadBackLemmas
