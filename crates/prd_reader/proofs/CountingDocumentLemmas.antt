@@ -50,7 +50,7 @@ document_names t = names_tallied (spell_document t) at_start
 start_keeps : Keeps at_start
 start_keeps = record { rules = omega arith; rule = tt }
 
-length_tallies : (rs : List Rule) → length (map rule_tally rs) ≡ length rs
+pub length_tallies : (rs : List Rule) → length (map rule_tally rs) ≡ length rs
 length_tallies [] = refl
 length_tallies (r ∷ rs) = ap (λ (n : ℕ). suc n) (length_tallies rs)
 

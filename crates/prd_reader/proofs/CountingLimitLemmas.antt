@@ -31,7 +31,7 @@ pub record KeepsTally (t : Tally) : Type 0 where
   pub patterns : t.patterns ≤ MOST_PATTERNS
   pub actions : t.actions ≤ MOST_ACTIONS
 
-abbrev KeepsNow : Option Counts → Type 0
+abbrev pub KeepsNow : Option Counts → Type 0
 KeepsNow None = Unit {0}
 KeepsNow (Some c) = KeepsTally (tally_of c)
 
@@ -44,11 +44,11 @@ pub record Keeps (p : Progress) : Type 0 where
   pub rule : KeepsNow p.rule
 
 -- the tests that a leaf without a refusal has passed
-tail_of_if : (b : Bool) (x : Cause) (rest : Option Cause) → (if b then Some x else rest) ≡ None → rest ≡ None
+pub tail_of_if : (b : Bool) (x : Cause) (rest : Option Cause) → (if b then Some x else rest) ≡ None → rest ≡ None
 tail_of_if true x rest h = cc
 tail_of_if false x rest h = h
 
-test_of_if : (b : Bool) (x : Cause) (rest : Option Cause) → (if b then Some x else rest) ≡ None → b ≡ false
+pub test_of_if : (b : Bool) (x : Cause) (rest : Option Cause) → (if b then Some x else rest) ≡ None → b ≡ false
 test_of_if true x rest h = cc
 test_of_if false x rest h = refl
 

@@ -9,13 +9,13 @@ use lib.Utf8.{scalars, scalar, encodes, encode}
 use Rattle.prd_reader.specs.Literals.{escape_of, unescaped_from, unescaped}
 
 -- each byte is none of ASCII
-abbrev AreHigh : List ℕ → Type 0
+abbrev pub AreHigh : List ℕ → Type 0
 AreHigh bs = (k : ℕ) → k < length bs → 128 ≤ get_or bs k 0
 
-high_rest : (b : ℕ) (bs : List ℕ) → AreHigh (b ∷ bs) → AreHigh bs
+pub high_rest : (b : ℕ) (bs : List ℕ) → AreHigh (b ∷ bs) → AreHigh bs
 high_rest b bs high = λ k within. high (suc k) (omega arith)
 
-high_apart : (b c : ℕ) → 128 ≤ b → c < 128 → (b == c) ≡ false
+pub high_apart : (b c : ℕ) → 128 ≤ b → c < 128 → (b == c) ≡ false
 high_apart b c high low = grind (arith, nat_tests)
 
 high_escape : (b : ℕ) → 128 ≤ b → escape_of b ≡ b
@@ -40,7 +40,7 @@ past_character true [] rest some high = absurd (omega arith)
 past_character true (b ∷ bs) rest some high =
     rw (high_escape b (high 0 (omega arith)), past_high bs rest (high_rest b bs high)) refl
 
-high_character : (c : ℕ) → 128 ≤ c → AreHigh (encode c)
+pub high_character : (c : ℕ) → 128 ≤ c → AreHigh (encode c)
 high_character c high = λ k within.
     elim (nat_lt (get_or (encode c) k 0) 128) as (λ v. nat_lt (get_or (encode c) k 0) 128 ≡ v → 128 ≤ get_or
     (encode c) k 0) [
@@ -53,7 +53,7 @@ high_character c high = λ k within.
 some_bytes : (c : ℕ) → 0 < length (encode c)
 some_bytes c = let bounds = len_utf8_bounds c in omega (arith, length-encode c, bounds.0)
 
-low_utf8 : (b : ℕ) → b < 128 → IsUtf8 (b ∷ [])
+pub low_utf8 : (b : ℕ) → b < 128 → IsUtf8 (b ∷ [])
 low_utf8 b low = IsUtf8-from_ascii (b ∷ []) (IsAscii-cons b [] low IsAscii-nil)
 
 escape_low : (b : ℕ) → b < 128 → escape_of b < 128
@@ -65,7 +65,7 @@ escape_low b low = elim (b == 110) as (λ v. cond v 10 (cond (b == 116) 9 (cond 
   ]
 ]
 
-character_utf8 : (c : ℕ) → scalar c ≡ true → IsUtf8 (encode c)
+pub character_utf8 : (c : ℕ) → scalar c ≡ true → IsUtf8 (encode c)
 character_utf8 c is = (c ∷ [], (rw is refl, append-nil (encode c)))
 
 -- behind a character of ASCII, and in front of a text that is one already
@@ -91,7 +91,7 @@ neither : (s t : Bool) → s || t ≡ false → (s ≡ false) × (t ≡ false)
 neither true t e = cc
 neither false t e = (refl, e)
 
-both : (s t : Bool) → s && t ≡ true → (s ≡ true) × (t ≡ true)
+pub both : (s t : Bool) → s && t ≡ true → (s ≡ true) × (t ≡ true)
 both true t e = (refl, e)
 both false t e = cc
 

@@ -16,7 +16,7 @@ use Rattle.rif_lex.proofs.FollowLemmas.{forms_are_tokens}
 use Rattle.prd_reader.specs.Canonical.{Writing, opening, closing, gap_before, listed, const_spelling, var_spelling, func_text, external_spelling, term_spelling}
 use Rattle.prd_reader.specs.Trees.{TermTree, constant, variable, call, TermTrees, no_terms, terms}
 use Rattle.prd_reader.specs.Values.{const_value, func_value, term_value, terms_value, place_of}
-use Rattle.prd_reader.specs.Writable.{IsNameText, IsWritableConst, IsWritableTerm, AreWritableTerms, Ends}
+use Rattle.prd_reader.specs.Writable.{HasNames, IsNameText, IsWritableConst, IsWritableTerm, AreWritableTerms, Ends}
 use Rattle.prd_reader.proofs.FoldLemmas.{spelled_const, spelled_var, spelled_call}
 
 and_first : (a b : Bool) → a && b ≡ true → a ≡ true
@@ -60,29 +60,29 @@ no_star (s ∷ ss) separate =
 pub separate_opening : (rest : List Spelled) → AreSeparate rest → AreSeparate (opening ∷ rest)
 separate_opening rest separate = (refl, ap not (no_star rest separate), separate)
 
-name_token : (t : List ℕ) → IsNameText t → IsToken (record { kind = Local; text = codes "_" ++ t })
+name_token : (t : List ℕ) → HasNames t → IsToken (record { kind = Local; text = codes "_" ++ t })
 name_token [] names = absurd names
 name_token (b ∷ bs) names = constants_are_tokens.names b bs names
 
-var_token : (t : List ℕ) → IsNameText t → IsToken (record { kind = Var; text = codes "?" ++ t })
+var_token : (t : List ℕ) → HasNames t → IsToken (record { kind = Var; text = codes "?" ++ t })
 var_token [] names = absurd names
 var_token (b ∷ bs) names = (forms_are_tokens Var (63 ∷ b ∷ bs)).1 (record { first = b; more = bs; is = refl; names = names })
 
 pub separate_const : (c : Const) (gap : Gap) (rest : List Spelled) → IsWritableConst c → AreSeparate rest →
     Ends gap rest → AreSeparate (const_spelling c gap rest)
 separate_const (IntConst z) gap rest w s e =
-    (constants_are_tokens.integers z w, ends_as_int (gap_text gap ++ spelled_text rest) e, s)
+    (constants_are_tokens.integers z w.small, ends_as_int (gap_text gap ++ spelled_text rest) e, s)
 separate_const (BoolConst b) gap rest w s e = (constants_are_tokens.truths b, e, s)
 separate_const (StrConst t) gap rest w s e = (constants_are_tokens.strings t, refl, s)
-separate_const (IriConst t) gap rest w s e = (constants_are_tokens.iris t w, refl, s)
+separate_const (IriConst t) gap rest w s e = (constants_are_tokens.iris t w.inside, refl, s)
 separate_const (LocalConst t) gap rest w s e =
-    (name_token t w, ends_as_name (gap_text gap ++ spelled_text rest) e, s)
+    (name_token t w.names, ends_as_name (gap_text gap ++ spelled_text rest) e, s)
 separate_const (Fresh k) gap rest w s e = absurd w
 
 pub separate_var : (names : List (List ℕ)) (v : ℕ) (gap : Gap) (rest : List Spelled) →
     IsNameText (get_or names v []) → AreSeparate rest → Ends gap rest → AreSeparate (var_spelling names v gap rest)
 separate_var names v gap rest w s e =
-    (var_token (get_or names v []) w, ends_as_name (gap_text gap ++ spelled_text rest) e, s)
+    (var_token (get_or names v []) w.names, ends_as_name (gap_text gap ++ spelled_text rest) e, s)
 
 -- the name of a built-in is one token, which `(` ends
 func_token : (f : Func) → IsToken (record { kind = Curie; text = func_text f })

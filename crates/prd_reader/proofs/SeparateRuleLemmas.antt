@@ -176,7 +176,7 @@ separate_group p r rest small w h =
       ),
     )
 
-groups_both : (rs ss : List Rule) (rest : List Spelled) →
+pub groups_both : (rs ss : List Rule) (rest : List Spelled) →
     groups_spelling (rs ++ ss) rest ≡ groups_spelling rs (groups_spelling ss rest)
 groups_both [] ss rest = refl
 groups_both (r ∷ rs) ss rest = ap (group_spelling r) (groups_both rs ss rest)
@@ -190,7 +190,7 @@ mutual
       AreSeparate (groups_spelling (member_rules p ms) rest)
   separate_members p no_members rest w h = h
   separate_members p (rule_member r ms) rest w h =
-      separate_group p r (groups_spelling (member_rules p ms) rest) w.0 w.1.0 (separate_members p ms rest w.1.1 h)
+      separate_group p r (groups_spelling (member_rules p ms) rest) w.0.small w.1.0 (separate_members p ms rest w.1.1 h)
   separate_members p (group_member g ms) rest w h =
       subst AreSeparate (sym (groups_both (group_rules p g) (member_rules p ms) rest))
       (separate_group_rules p g (groups_spelling (member_rules p ms) rest) w.0 (separate_members p ms rest w.1 h))

@@ -20,3 +20,5 @@ pub mod Canonical
 pub mod Writing
 pub mod Writable
 pub mod CanonicalTrees
+pub mod ReadBack
+pub mod WritableLeaves

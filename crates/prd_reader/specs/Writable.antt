@@ -1,5 +1,6 @@
 -- Which constants and terms can be written so that they are read back. No public clause cites this module.
-use Rattle.std.specs.Prelude.{◌≡◌, ◌<◌, ◌^◌, ℕ, ℤ, pos, true, List, [], ◌∷◌, ◌++◌, get_or}
+use Rattle.std.specs.Prelude.{◌≡◌, ◌<◌, ◌^◌, ℕ, ℤ, pos, true, List, [], ◌∷◌, ◌++◌, get_or, Some, IsUtf8}
+use Rattle.std.specs.Fmt.{signed_decimal}
 use lib.Signed.{mag}
 use Rattle.std.specs.List.{AllByRecursion}
 use Rattle.rif_terms.specs.declared.constant.Const.{Const}
@@ -8,6 +9,7 @@ use Rattle.rif_lex.specs.declared.token.Kind.TheVariants.{Word}
 use Rattle.rif_lex.specs.Characters.{is_inside_iri}
 use Rattle.rif_lex.specs.Forms.{AreNames}
 use Rattle.rif_lex.specs.Spelling.{Gap, gap_text, Spelled, spelled_text, ends_before}
+use Rattle.prd_reader.specs.Literals.{integer_of}
 use Rattle.prd_reader.specs.Trees.{NameTree, TermTree, constant, variable, call, TermTrees, no_terms, terms, PairTrees, last_pair, pairs, Tail, equals, member_of, with_pairs, Vars, one_var, more_vars, term_of_first, FormulaTree, conj, disj, neg, some, grouped, holds, compared, atom, FormulaTrees, no_formulas, formulas, TargetTree, target_member, target_frame, target_atom, ActionTree, assert, retract, retract_slot, retract_object, modify, ActionTrees, last_action, actions, BlockTree, acts, new_object, slot_value, SuchTrees, last_such, more_such, RuleTree, for_all, for_all_such, if_then, block, GroupTree, group, MemberTrees, no_members, rule_member, group_member, PrefixTrees, no_group, one_group, prefix, DocumentTree, document}
 use Rattle.prd_reader.specs.Values.{const_value, name_value, place_of, rule_names, priority_in}
 
@@ -16,15 +18,30 @@ abbrev pub Ends : Gap → List Spelled → Type 0
 Ends gap rest = ends_before Word (gap_text gap ++ spelled_text rest) ≡ true
 
 -- name characters, of which there is one at least
-abbrev pub IsNameText : List ℕ → Type 0
-IsNameText [] = ⊥
-IsNameText (b ∷ bs) = AreNames (b ∷ bs) []
+abbrev pub HasNames : List ℕ → Type 0
+HasNames [] = ⊥
+HasNames (b ∷ bs) = AreNames (b ∷ bs) []
+
+-- a text that may stand behind a name's sign
+pub record IsNameText (t : List ℕ) : Type 0 where
+  pub names : HasNames t
+  pub utf8 : IsUtf8 t
+
+-- a text that may stand between `<` and `>`
+pub record IsIriText (t : List ℕ) : Type 0 where
+  pub inside : AllByRecursion (λ b. is_inside_iri b ≡ true) t
+  pub utf8 : IsUtf8 t
+
+-- an integer of documents, which its text stands for
+pub record IsWritableInt (z : ℤ) : Type 0 where
+  pub small : mag z < 2 ^ 127
+  pub read_back : integer_of (signed_decimal z) ≡ Some z
 
 abbrev pub IsWritableConst : Const → Type 0
-IsWritableConst (Int z) = mag z < 2 ^ 127
+IsWritableConst (Int z) = IsWritableInt z
 IsWritableConst (Bool b) = Unit {0}
-IsWritableConst (Str t) = Unit {0}
-IsWritableConst (Iri t) = AllByRecursion (λ b. is_inside_iri b ≡ true) t
+IsWritableConst (Str t) = IsUtf8 t
+IsWritableConst (Iri t) = IsIriText t
 IsWritableConst (Local t) = IsNameText t
 IsWritableConst (Fresh k) = ⊥
 
@@ -114,7 +131,7 @@ abbrev mutual
   pub AreWritableMembers : ℤ → MemberTrees → Type 0
   AreWritableMembers p no_members = Unit {0}
   AreWritableMembers p (rule_member r ms) =
-      (mag p < 2 ^ 127) × (IsWritableRule (rule_names r) r × AreWritableMembers p ms)
+      IsWritableInt p × (IsWritableRule (rule_names r) r × AreWritableMembers p ms)
   AreWritableMembers p (group_member g ms) = IsWritableGroup p g × AreWritableMembers p ms
 
 abbrev pub AreWritablePrefixes : PrefixTrees → Type 0

@@ -33,7 +33,7 @@ pub use cause::Cause;
 pub use document::{read_doc, read_parts};
 pub use document_leaves::leaves;
 pub use explaining::{explain, explain_line};
-pub use laws::one_outcome;
+pub use laws::{canonical_is_read_back, one_outcome};
 pub use leaf::{Builtin, BuiltinName, Keyword, Leaf, Literal};
 pub use prefixes::Prefixes;
 pub use progress::Bracket;

@@ -1,0 +1,87 @@
+-- The canonical text of a document that was read is read back as the same document.
+use Rattle.std.proofs.Common.{◌≡◌, ◌≤◌, ◌∙◌, ap, refl, sym, subst, List, [], ◌∷◌, ◌++◌, length, IsUtf8}
+use Rattle.std.proofs.lemmas.Str.{IsUtf8-nil, IsUtf8-append}
+use Rattle.rif_terms.specs.declared.limits.TheConstants.{MOST_INPUT_BYTES}
+use Rattle.rif_lex.specs.Spelling.{Gap, joined, space, line_feed, gap_text, Spelled, spelled_text}
+use Rattle.rif_lex.proofs.LexingLemmas.{inputs_are_texts}
+use Rattle.rif_lex.proofs.SpellingLemmas.{spelled_is_lexed}
+use Rattle.prd_reader.specs.declared.leaf.Leaf.{Leaf}
+use Rattle.prd_reader.specs.Canonical.{canonical_spelling, canonical_text}
+use Rattle.prd_reader.specs.CanonicalTrees.{around_members, canonical_document, canonical_group, canonical_prefixes}
+use Rattle.prd_reader.specs.Leaves.{leaves_from, leaves_of}
+use Rattle.prd_reader.specs.ReadBack.{CanonicalIsReadBack, IsReadBack, IsShallow}
+use Rattle.prd_reader.specs.Refusals.{IsClear}
+use Rattle.prd_reader.specs.Trees.{MemberTrees, no_members, rule_member, group_member, PrefixTrees, no_group, one_group}
+use Rattle.prd_reader.specs.Trees.{prefix, DocumentTree, document, spell_document}
+use Rattle.prd_reader.specs.Values.{document_prefixes, document_value}
+use Rattle.prd_reader.specs.Writable.{IsWritableDocument}
+use Rattle.prd_reader.proofs.CanonicalClearLemmas.{canonical_is_clear}
+use Rattle.prd_reader.proofs.CanonicalDocumentLemmas.{same_document}
+use Rattle.prd_reader.proofs.CanonicalLeavesLemmas.{AreTexts, plain_start}
+use Rattle.prd_reader.proofs.ConstantTextLemmas.{low_text}
+use Rattle.prd_reader.proofs.LeadingRuleLemmas.{canonical_leads}
+use Rattle.prd_reader.proofs.OutcomeLemmas.{count_of_leaves}
+use Rattle.prd_reader.proofs.SeparateRuleLemmas.{separate_document}
+use Rattle.prd_reader.proofs.WritableDocumentLemmas.{read_is_writable}
+
+gap_utf8 : (gap : Gap) → IsUtf8 (gap_text gap)
+gap_utf8 joined = IsUtf8-nil
+gap_utf8 space = low_text (32 ∷ []) refl
+gap_utf8 line_feed = low_text (10 ∷ []) refl
+
+spelled_utf8 : (ss : List Spelled) → AreTexts ss → IsUtf8 (spelled_text ss)
+spelled_utf8 [] texts = IsUtf8-nil
+spelled_utf8 (s ∷ ss) texts =
+    IsUtf8-append s.token.text (gap_text s.gap ++ spelled_text ss) texts.0
+    (IsUtf8-append (gap_text s.gap) (spelled_text ss) (gap_utf8 s.gap) (spelled_utf8 ss texts.1))
+
+-- a canonical tree declares no prefix
+none_around : (ms : MemberTrees) → document_prefixes (document (around_members ms)) ≡ []
+none_around no_members = refl
+none_around (rule_member r ms) = refl
+none_around (group_member g ms) = refl
+
+none_declared : (ps : PrefixTrees) → document_prefixes (document (canonical_prefixes ps)) ≡ []
+none_declared no_group = refl
+none_declared (one_group g) = none_around (canonical_group _ g no_members)
+none_declared (prefix name iri ps) = none_declared ps
+
+no_prefixes : (t : DocumentTree) → document_prefixes (canonical_document t) ≡ []
+no_prefixes (document ps) = none_declared ps
+
+tree_is_read_back : (t : DocumentTree) → IsWritableDocument t →
+    IsClear (spell_document t) (length (spell_document t)) →
+    length (canonical_text (document_value t)) ≤ MOST_INPUT_BYTES →
+    IsReadBack (canonical_text (document_value t)) (document_value t)
+tree_is_read_back t writable clear short =
+    let ss = canonical_spelling (document_value t) in
+    let text = spelled_text ss in
+    let leads = canonical_leads t writable in
+    let lexes = spelled_is_lexed ss (separate_document t writable) in
+    let tokens = lexes.0 in
+    let leaves : leaves_of text tokens ≡ spell_document (canonical_document t) =
+    ap (leaves_from [] []) lexes.2 ∙ leads.leaves [] plain_start in
+    (
+      tokens,
+      (
+        (inputs_are_texts text tokens).1
+            (record { short = short; utf8 = spelled_utf8 ss leads.texts; tokens = lexes.1 }),
+        λ shallow. record {
+          tree = canonical_document t;
+          spelled = sym leaves;
+          clear = subst (IsClear (leaves_of text tokens)) (count_of_leaves text tokens)
+              (subst (λ (ls : List Leaf). IsClear ls (length ls)) (sym leaves)
+              (canonical_is_clear t clear (subst IsShallow leaves shallow)));
+          value = same_document t;
+          declared = no_prefixes t;
+        },
+      ),
+    )
+
+pub canonical_is_read_back : CanonicalIsReadBack
+canonical_is_read_back bytes tokens doc prefixes lexes read short =
+    let clear = subst (λ (ls : List Leaf). IsClear ls (length ls)) (sym read.spelled)
+    (subst (IsClear (leaves_of bytes tokens)) (sym (count_of_leaves bytes tokens)) read.clear) in
+    subst (λ d. IsReadBack (canonical_text d) d) read.value
+    (tree_is_read_back read.tree (read_is_writable bytes tokens read.tree lexes read.spelled) clear
+    (subst (λ d. length (canonical_text d) ≤ MOST_INPUT_BYTES) (sym read.value) short))
