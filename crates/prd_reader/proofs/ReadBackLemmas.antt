@@ -60,8 +60,7 @@ tree_is_read_back t writable clear short =
     let lexes = spelled_is_lexed ss (separate_document t writable) in
     let tokens = lexes.0 in
     let leaves : leaves_of text tokens ≡ spell_document (canonical_document t) =
-    ap (leaves_from [] []) lexes.2 ∙ leads.leaves [] plain_start in
-    (
+    ap (leaves_from [] []) lexes.2 ∙ leads.leaves [] plain_start in (
       tokens,
       (
         (inputs_are_texts text tokens).1

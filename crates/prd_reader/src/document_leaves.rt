@@ -9,7 +9,8 @@ ghost use Rattle.prd_reader.specs.LeafSteps.{behind, front_from};
 use crate::behind::Behind;
 use crate::leaf::{Keyword, Leaf};
 use crate::prefixes::Prefixes;
-use crate::token_leaf::leaf_at;
+use crate::text_pool::TextPool;
+use crate::token_leaf::leaf_in;
 use rif_lex::Token;
 use rif_terms::{OutOfMemory, Text};
 use std::alloc::Global;
@@ -31,10 +32,11 @@ pub fn leaves(
 {
     let mut found = Vec::with_capacity(alloc, tokens.len())?;
     let mut prefixes = Prefixes::new(alloc);
+    let mut pool = TextPool::new(alloc)?;
     for at in 0..tokens.len() {
         let behind = behind_of(found.as_slice());
-        let leaf = leaf_at(
-            alloc,
+        let leaf = leaf_in(
+            &mut pool,
             &prefixes,
             behind,
             tokens[at],

@@ -72,8 +72,8 @@ pub fn explain_line(
     Ok(out)
 }
 
-// The line and the column of a token of the document.
-fn place_of(refusal: &Refusal) -> Option<(u64, u64)> {
+/// The line and the column of a refusal of a document.
+pub(crate) fn place_of(refusal: &Refusal) -> Option<(u64, u64)> {
     match refusal {
         Refusal::Expected { line, col }
         | Refusal::TooDeep { line, col }

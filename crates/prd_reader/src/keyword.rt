@@ -5,15 +5,15 @@ ghost use Rattle.prd_reader.specs.Leaves.{word_leaf};
 ghost use Rattle.prd_reader.specs.LeafWords.{inner_word_leaf, is_left_out, other_word_leaf};
 
 use crate::leaf::{Keyword, Leaf};
-use rif_terms::{OutOfMemory, Text};
-use std::alloc::Global;
+use crate::text_pool::TextPool;
+use rif_terms::OutOfMemory;
 
 /// The leaf of a word.
 ///
 /// Linear in its length; the bytes of a word that isn't the grammar's are copied once.
 ///
 /// Source: our own (docs/FORMATS.md, "Grammar").
-pub(crate) fn word_leaf(alloc: Global, text: &[u8]) -> Result<Leaf, OutOfMemory>
+pub(crate) fn word_leaf(pool: &mut TextPool, text: &[u8]) -> Result<Leaf, OutOfMemory>
     requires { IsUtf8 text.now }
     ensures { IfOk result (λ leaf. leaf ≡ word_leaf text.now) }
 {
@@ -26,7 +26,7 @@ pub(crate) fn word_leaf(alloc: Global, text: &[u8]) -> Result<Leaf, OutOfMemory>
     if is_left_out(text) {
         return Ok(Leaf::LeftOut);
     }
-    Ok(Leaf::Word(Text::from_bytes(alloc, text)?))
+    Ok(Leaf::Word(pool.text(text)?))
 }
 
 // A word of documents, groups and rules.

@@ -7,6 +7,7 @@ ghost use Rattle.prd_reader.specs.Literals.{are_name_characters, boolean_of, esc
 ghost use Rattle.prd_reader.specs.LeafWords.{integer_literal};
 
 use crate::leaf::Literal;
+use crate::text_pool::TextPool;
 use rif_terms::{Integer, OutOfMemory, Text};
 use std::alloc::Global;
 
@@ -42,15 +43,15 @@ fn parsed(digits: &str) -> Option<Integer>
 /// given back.
 ///
 /// Source: our own (docs/FORMATS.md, "Tokens").
-pub(crate) fn unescaped(alloc: Global, text: &[u8]) -> Result<Text, OutOfMemory>
+pub(crate) fn unescaped(pool: &mut TextPool, text: &[u8]) -> Result<Text, OutOfMemory>
     requires { IsUtf8 text.now }
     ensures { IfOk result (λ made. made ≡ unescaped text.now) }
 {
     if !has_escape(text) {
-        return Text::from_bytes(alloc, text);
+        return pool.text(text);
     }
-    let bytes = unescaped_bytes(alloc, text)?;
-    Text::from_bytes(alloc, bytes.as_slice())
+    let bytes = unescaped_bytes(pool.alloc(), text)?;
+    pool.text(bytes.as_slice())
 }
 
 fn has_escape(text: &[u8]) -> bool

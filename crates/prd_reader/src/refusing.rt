@@ -123,7 +123,7 @@ fn is_name_too_many(counts: &RuleReading, leaf: &Leaf) -> bool
 {
     match leaf {
         Leaf::Var(name) => {
-            !has_name(&counts.names, name) && MOST_VARIABLES <= counts.names.len() as u64
+            MOST_VARIABLES <= counts.names.len() as u64 && !has_name(&counts.names, name)
         }
         _ => false,
     }

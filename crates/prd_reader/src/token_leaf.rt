@@ -11,6 +11,7 @@ use crate::keyword::word_leaf;
 use crate::leaf::{BuiltinName, Leaf, Literal};
 use crate::literal::{integer_of, is_type, literal_of, unescaped};
 use crate::prefixes::Prefixes;
+use crate::text_pool::TextPool;
 use crate::token_text::{before_colon, behind_colon, behind_sign, inner, text_of};
 use rif_lex::{Kind, Token};
 use rif_terms::{OutOfMemory, Text};
@@ -35,18 +36,35 @@ pub fn leaf_at(
     ensures { IfOk result (λ leaf. leaf
         ≡ leaf_of prefixes.now (front_of behind) (written bytes.now token) (map (written bytes.now) rest.now)) }
 {
+    let mut pool = TextPool::without_places(alloc);
+    leaf_in(&mut pool, prefixes, behind, token, rest, bytes)
+}
+
+/// The same, where the text that the leaf has may share the bytes of one in the pool.
+pub(crate) fn leaf_in(
+    pool: &mut TextPool,
+    prefixes: &Prefixes,
+    behind: Behind,
+    token: Token,
+    rest: &[Token],
+    bytes: &[u8],
+) -> Result<Leaf, OutOfMemory>
+    requires { IsTokenOf bytes.now token }
+    ensures { IfOk result (λ leaf. leaf
+        ≡ leaf_of prefixes.now (front_of behind) (written bytes.now token) (map (written bytes.now) rest.now)) }
+{
     let text = text_of(bytes, token);
     match token.kind {
-        Kind::Word => word_or_name(alloc, behind, text),
-        Kind::Curie => curie_leaf(alloc, prefixes, behind, text),
-        Kind::Local => Ok(Leaf::Local(Text::from_bytes(alloc, behind_sign(text))?)),
-        Kind::Var => Ok(Leaf::Var(Text::from_bytes(alloc, behind_sign(text))?)),
+        Kind::Word => word_or_name(pool, behind, text),
+        Kind::Curie => curie_leaf(pool, prefixes, behind, text),
+        Kind::Local => Ok(Leaf::Local(pool.text(behind_sign(text))?)),
+        Kind::Var => Ok(Leaf::Var(pool.text(behind_sign(text))?)),
         Kind::Int => Ok(Leaf::Int(integer_of(text))),
         Kind::Str => {
-            let content = unescaped(alloc, inner(text))?;
-            string_leaf(alloc, prefixes, content, rest, bytes)
+            let content = unescaped(pool, inner(text))?;
+            string_leaf(pool.alloc(), prefixes, content, rest, bytes)
         }
-        Kind::Iri => iri_leaf(alloc, behind, inner(text)),
+        Kind::Iri => iri_leaf(pool, behind, inner(text)),
         Kind::Open => Ok(Leaf::Open),
         Kind::Close => Ok(Leaf::Close),
         Kind::OpenSquare => Ok(Leaf::OpenSquare),
@@ -60,32 +78,32 @@ pub fn leaf_at(
 }
 
 // A word, which straight behind `Prefix` `(` is a name.
-fn word_or_name(alloc: Global, behind: Behind, text: &[u8]) -> Result<Leaf, OutOfMemory>
+fn word_or_name(pool: &mut TextPool, behind: Behind, text: &[u8]) -> Result<Leaf, OutOfMemory>
     requires { IsUtf8 text.now }
     ensures { IfOk result (λ leaf. leaf
         ≡ (if is_behind_prefix (front_of behind) then WordLeaf text.now else word_leaf text.now)) }
 {
     match behind {
-        Behind::Prefix => Ok(Leaf::Word(Text::from_bytes(alloc, text)?)),
-        _ => word_leaf(alloc, text),
+        Behind::Prefix => Ok(Leaf::Word(pool.text(text)?)),
+        _ => word_leaf(pool, text),
     }
 }
 
 // An IRI by its text: a type, a built-in's name, or itself.
-fn iri_leaf(alloc: Global, behind: Behind, text: &[u8]) -> Result<Leaf, OutOfMemory>
+fn iri_leaf(pool: &mut TextPool, behind: Behind, text: &[u8]) -> Result<Leaf, OutOfMemory>
     requires { IsUtf8 text.now }
     ensures { IfOk result (λ leaf. leaf ≡ named_leaf (front_of behind) (Some text.now) (IriLeaf text.now)) }
 {
     match behind {
         Behind::Carets => Ok(Leaf::TypeName(is_type(text))),
         Behind::External => Ok(Leaf::Builtin(builtin_named(text))),
-        _ => Ok(Leaf::Iri(Text::from_bytes(alloc, text)?)),
+        _ => Ok(Leaf::Iri(pool.text(text)?)),
     }
 }
 
 // A CURIE by its text: a type, a built-in's name, or an IRI.
 fn curie_leaf(
-    alloc: Global,
+    pool: &mut TextPool,
     prefixes: &Prefixes,
     behind: Behind,
     text: &[u8],
@@ -94,20 +112,20 @@ fn curie_leaf(
     ensures { IfOk result (λ leaf. leaf
         ≡ named_leaf (front_of behind) (curie_iri prefixes.now text.now) (CurieLeaf (curie_iri prefixes.now text.now))) }
 {
-    match curie_iri(alloc, prefixes, text)? {
-        Some(iri) => known_curie(alloc, behind, iri.as_slice()),
+    match curie_iri(pool.alloc(), prefixes, text)? {
+        Some(iri) => known_curie(pool, behind, iri.as_slice()),
         None => Ok(unknown_curie(behind)),
     }
 }
 
-fn known_curie(alloc: Global, behind: Behind, iri: &[u8]) -> Result<Leaf, OutOfMemory>
+fn known_curie(pool: &mut TextPool, behind: Behind, iri: &[u8]) -> Result<Leaf, OutOfMemory>
     requires { IsUtf8 iri.now }
     ensures { IfOk result (λ leaf. leaf ≡ named_leaf (front_of behind) (Some iri.now) (CurieLeaf (Some iri.now))) }
 {
     match behind {
         Behind::Carets => Ok(Leaf::TypeName(is_type(iri))),
         Behind::External => Ok(Leaf::Builtin(builtin_named(iri))),
-        _ => Ok(Leaf::Curie(Some(Text::from_bytes(alloc, iri)?))),
+        _ => Ok(Leaf::Curie(Some(pool.text(iri)?))),
     }
 }
 

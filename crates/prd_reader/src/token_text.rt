@@ -5,8 +5,8 @@ ghost use Rattle.prd_reader.specs.Leaves.{before_colon, inner};
 
 use rif_lex::Token;
 
-/// The token's bytes. Where its span isn't one of the bytes, what of it is.
-pub(crate) fn text_of(bytes: &[u8], token: Token) -> &[u8]
+/// The token's bytes. Where its span isn't one of the bytes, what of it is. In constant time.
+pub fn text_of(bytes: &[u8], token: Token) -> &[u8]
     ensures { result.now ≡ (written bytes.now token).text }
 {
     let start = token.start.min(bytes.len());

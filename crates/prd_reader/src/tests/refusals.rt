@@ -1,4 +1,5 @@
-use super::{place_in, read};
+use super::read;
+use crate::explaining::place_of;
 use rif_terms::Fault;
 use std::test::Fail;
 
@@ -322,7 +323,7 @@ fn each_mistake_is_refused_at_its_place(rt: HostRuntime) -> Result<(), Fail> {
             panic!(rt; "{what} is read");
         };
         assert_eq!(rt; refusal.number(), *number, "{what}");
-        assert_eq!(rt; place_in(&refusal), (*line, *col), "{what}");
+        assert_eq!(rt; place_of(&refusal), Some((*line, *col)), "{what}");
     }
     Ok(())
 }

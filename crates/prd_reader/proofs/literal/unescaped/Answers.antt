@@ -6,7 +6,7 @@ pub returns-then-not-has_escape : goal.returns-then-not-has_escape
 returns-then-not-has_escape c =
     let none = sym c.has_escape.ensures ∙ c.if-not-has_escape.true in
     let plain = plain_is c.args.text.now none in
-    subst (λ (t : List ℕ). IfOk c.from_bytes.result (λ made. made ≡ t)) (sym plain) c.from_bytes.ensures
+    subst (λ (t : List ℕ). IfOk c.text.result (λ made. made ≡ t)) (sym plain) c.text.ensures
 
-pub from_bytes-requires-2 : goal.from_bytes-requires-2
-from_bytes-requires-2 c = rw (c.as_slice.ensures.value, c.in_ok-bytes.ensures) (unescaped_utf8 c.args.text.now c.requires)
+pub text-requires-2 : goal.text-requires-2
+text-requires-2 c = rw (c.as_slice.ensures.value, c.in_ok-bytes.ensures) (unescaped_utf8 c.args.text.now c.requires)

@@ -1,14 +1,14 @@
 use Rattle.rif_lex.specs.Spelling.{written}
 use Rattle.prd_reader.proofs.TokenLemmas.{int_digits, local_utf8, var_utf8, str_utf8, iri_utf8}
-use Rattle.prd_reader.proofs.token_leaf.leaf_at.Goals as goal
+use Rattle.prd_reader.proofs.token_leaf.leaf_in.Goals as goal
 
-pub from_bytes-requires : goal.from_bytes-requires
-from_bytes-requires c =
+pub text-requires : goal.text-requires
+text-requires c =
     rw (c.behind_sign.ensures, c.text_of-text.ensures)
     (local_utf8 (written c.args.bytes.now c.args.token) c.requires.form c.in-Local.is c.requires.utf8)
 
-pub from_bytes-requires-in-Var : goal.from_bytes-requires-in-Var
-from_bytes-requires-in-Var c =
+pub text-requires-in-Var : goal.text-requires-in-Var
+text-requires-in-Var c =
     rw (c.behind_sign-in-Var.ensures, c.text_of-text.ensures)
     (var_utf8 (written c.args.bytes.now c.args.token) c.requires.form c.in-Var.is c.requires.utf8)
 
