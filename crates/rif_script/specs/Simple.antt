@@ -4,7 +4,7 @@
 --                           actions assert and retract targets, and whose variables are each declared once, by
 --                           `Forall`, and occur in a pattern of the condition
 --     is_simple_item item   an item that asserts or retracts a fact, or fires
--- Source: the project's own (docs/FORMATS.md, "Simple jobs").
+-- Source: the project's own (docs/FORMATS.md, "What `run` evaluates").
 use Rattle.std.specs.Prelude.{ℕ, ◌==◌, ◌&&◌, ◌||◌, not, Bool, true, false, List, [], ◌∷◌, ◌++◌, Option, Some, None}
 use Rattle.std.specs.List.{flat_map, list_all, list_any}
 use Rattle.rif_terms.specs.declared.change.Change.TheVariants.{Assert, Retract, RetractSlot, RetractObject, Modify}
