@@ -1,5 +1,7 @@
 -- The client of a name among those that are known, and a script's next line.
-use Rattle.std.proofs.Common.{◌≡◌, ◌≢◌, ◌∙◌, ◌==◌, sym, subst, ap, refl, ℕ, ◌+◌, ◌<◌, ◌≤◌, nat_le, nat_lt, not, ◌&&◌, suc, Bool, true, false, List, [], ◌∷◌, ◌++◌, take, drop, length, length-drop, arith, ◌⊎◌, inl, inr}
+use Rattle.std.proofs.Common.{◌≡◌, ◌≢◌, ◌∙◌, ◌==◌, sym, subst, ap, refl, ℕ, ◌+◌, ◌<◌, ◌≤◌, nat_le, nat_lt, not, ◌&&◌}
+use Rattle.std.proofs.Common.{suc, Bool, true, false, List, [], ◌∷◌, ◌++◌, take, drop, length, length-drop, arith, ◌⊎◌}
+use Rattle.std.proofs.Common.{inl, inr}
 use Rattle.std.specs.Prelude.{Ok, Err}
 use Rattle.std.specs.declared.result.Result.{Result}
 use Rattle.std.proofs.lemmas.Bool.Decides.{nat_tests}
@@ -38,7 +40,8 @@ unknown names v high = elim (either (has_name names v)) [
   | inr new ↦ new
 ]
 
-pub known_client : (at place : ℕ) (names : List (List ℕ)) (v : List ℕ) → place ≡ place_of names v → place < length names →
+pub known_client : (at place : ℕ) (names : List (List ℕ)) (v : List ℕ) → place ≡ place_of names v →
+    place < length names →
     client_with at names v ≡ Ok (place, names)
 known_client at place names v is low =
     let has = known names v (subst (λ (n : ℕ). n < length names) is low) in
@@ -47,20 +50,24 @@ known_client at place names v is low =
 new_place : (names : List (List ℕ)) (v : List ℕ) → length names ≤ place_of names v → length names ≡ place_of names v
 new_place names v high = sym (place_at_end names v (unknown names v high))
 
-pub one_too_many : (at place : ℕ) (names : List (List ℕ)) (v : List ℕ) → place ≡ place_of names v → length names ≤ place →
+pub one_too_many : (at place : ℕ) (names : List (List ℕ)) (v : List ℕ) → place ≡ place_of names v →
+    length names ≤ place →
     MOST_CLIENTS ≤ place → client_with at names v ≡ Err (TooManyClients at)
 one_too_many at place names v is high full =
     let past = subst (λ (n : ℕ). length names ≤ n) is high in
     let new = unknown names v past in
-    let size : MOST_CLIENTS ≤ length names = subst (λ (n : ℕ). MOST_CLIENTS ≤ n) (is ∙ sym (new_place names v past)) full in
+    let size : MOST_CLIENTS ≤ length names =
+    subst (λ (n : ℕ). MOST_CLIENTS ≤ n) (is ∙ sym (new_place names v past)) full in
     rw (new, is_full MOST_CLIENTS (length names) size) refl
 
-pub new_client : (at place : ℕ) (names more : List (List ℕ)) (v : List ℕ) → place ≡ place_of names v → length names ≤ place →
+pub new_client : (at place : ℕ) (names more : List (List ℕ)) (v : List ℕ) → place ≡ place_of names v →
+    length names ≤ place →
     place < MOST_CLIENTS → more ≡ names ++ v ∷ [] → client_with at names v ≡ Ok (place, more)
 new_client at place names more v is high low pushed =
     let past = subst (λ (n : ℕ). length names ≤ n) is high in
     let new = unknown names v past in
-    let room : length names < MOST_CLIENTS = subst (λ (n : ℕ). n < MOST_CLIENTS) (is ∙ sym (new_place names v past)) low in
+    let room : length names < MOST_CLIENTS =
+    subst (λ (n : ℕ). n < MOST_CLIENTS) (is ∙ sym (new_place names v past)) low in
     rw (new, has_room MOST_CLIENTS (length names) room)
     (ap (λ (n : ℕ). Ok (n, names ++ v ∷ [])) (sym is) ∙ ap (λ (ns : List (List ℕ)). Ok (place, ns)) (sym pushed))
 
@@ -75,7 +82,8 @@ same_script : (n m : List (List ℕ)) (i j : List (ℕ × Item)) (b d : ℕ) →
 same_script n m i j b d names items budgets = cc
 
 -- one item more, step by step
-pub sent_by_steps : (at : ℕ) (s : Script) (one : List ℕ × Item) → with_sent at s one ≡ and_then (room_for at s one.1) (with_room at s one)
+pub sent_by_steps : (at : ℕ) (s : Script) (one : List ℕ × Item) →
+    with_sent at s one ≡ and_then (room_for at s one.1) (with_room at s one)
 unfolding with_sent
 sent_by_steps at s one = elim (either (nat_lt MOST_BUDGETS (s.budgets + budget_of one.1))) [
   | inl above ↦ rw above refl
@@ -92,21 +100,25 @@ sent_by_steps at s one = elim (either (nat_lt MOST_BUDGETS (s.budgets + budget_o
 pub answers_steps : (result : Result Script Fault) (at : ℕ) (s : Script) (one : List ℕ × Item) (budgets : ℕ) →
     room_for at s one.1 ≡ Ok budgets → Answers result (with_room at s one budgets) → Answers result (with_sent at s one)
 answers_steps result at s one budgets room answers =
-    subst (Answers result) (sym (sent_by_steps at s one ∙ ap (λ (r : Result ℕ Refusal). and_then r (with_room at s one)) room)) answers
+    subst (Answers result)
+    (sym (sent_by_steps at s one ∙ ap (λ (r : Result ℕ Refusal). and_then r (with_room at s one)) room)) answers
 
-pub no_room : (fault : Fault) (at : ℕ) (s : Script) (one : List ℕ × Item) → Answers {T = ℕ} (Err fault) (room_for at s one.1) →
+pub no_room : (fault : Fault) (at : ℕ) (s : Script) (one : List ℕ × Item) →
+    Answers {T = ℕ} (Err fault) (room_for at s one.1) →
     Answers {T = Script} (Err fault) (with_sent at s one)
 no_room OutOfMemory at s one refused = tt
 no_room (Refused refusal) at s one refused =
     sent_by_steps at s one ∙ ap (λ (r : Result ℕ Refusal). and_then r (with_room at s one)) refused
 
 pub no_client : (fault : Fault) (at : ℕ) (s : Script) (one : List ℕ × Item) (budgets : ℕ) →
-    Answers {T = ℕ × List (List ℕ)} (Err fault) (client_with at s.names one.0) → Answers {T = Script} (Err fault) (with_room at s one budgets)
+    Answers {T = ℕ × List (List ℕ)} (Err fault) (client_with at s.names one.0) →
+    Answers {T = Script} (Err fault) (with_room at s one budgets)
 no_client OutOfMemory at s one budgets refused = tt
 no_client (Refused refusal) at s one budgets refused =
     ap (λ (r : Result (ℕ × List (List ℕ)) Refusal). and_then r (with_client s one.1 budgets)) refused
 
-pub with_room_is : (at : ℕ) (s : Script) (one : List ℕ × Item) (budgets client : ℕ) (names : List (List ℕ)) (items : List (ℕ × Item)) →
+pub with_room_is : (at : ℕ) (s : Script) (one : List ℕ × Item) (budgets client : ℕ) (names : List (List ℕ))
+    (items : List (ℕ × Item)) →
     client_with at s.names one.0 ≡ Ok (client, names) → items ≡ s.items ++ (client, one.1) ∷ [] →
     with_room at s one budgets ≡ Ok (record { names = names; items = items; budgets = budgets })
 with_room_is at s one budgets client names items found more =
@@ -120,8 +132,10 @@ module _ (prefixes : Prefixes) (at : ℕ) (s : Script) (rest line behind : List 
       ≡ and_then (with_line prefixes at s line) (λ next. with_lines prefixes (suc at) next (lines_of behind))
   one_line =
       ap (with_lines prefixes at s) (first_of_lines rest some_)
-      ∙ (ap (λ (l : List ℕ). and_then (with_line prefixes at s l) (λ next. with_lines prefixes (suc at) next (lines_of (drop (line_length rest) rest)))) (sym is)
-      ∙ ap (λ (b : List ℕ). and_then (with_line prefixes at s line) (λ next. with_lines prefixes (suc at) next (lines_of b))) (sym after))
+      ∙ (ap (λ (l : List ℕ). and_then (with_line prefixes at s l)
+      (λ next. with_lines prefixes (suc at) next (lines_of (drop (line_length rest) rest)))) (sym is)
+      ∙ ap (λ (b : List ℕ). and_then (with_line prefixes at s line)
+      (λ next. with_lines prefixes (suc at) next (lines_of b))) (sym after))
 
   -- a line that gives a script goes on from it
   pub line_goes_on : (next : Script) → with_line prefixes at s line ≡ Ok next →
@@ -140,7 +154,8 @@ module _ (prefixes : Prefixes) (at : ℕ) (s : Script) (rest line behind : List 
       ∙ ap (λ (r : Result Script Refusal). and_then r (λ x. with_lines prefixes (suc at) x (lines_of behind))) refused)
 
 -- each line is a byte at least
-pub less_is_left : (rest behind : List ℕ) → rest ≢ [] → behind ≡ drop (line_length rest) rest → length behind < length rest
+pub less_is_left : (rest behind : List ℕ) → rest ≢ [] → behind ≡ drop (line_length rest) rest →
+    length behind < length rest
 less_is_left rest behind some_ after =
     let size : length behind ≡ length (drop (line_length rest) rest) = ap length after in
     omega (arith, size, length-drop (line_length rest) rest, line_grows rest some_, line_within rest)

@@ -1,18 +1,28 @@
 -- Constants: what is read is spelled so, and what is spelled so is read.
-use Rattle.std.proofs.Common.{◌≡◌, ◌∙◌, sym, subst, ap, refl, ℕ, ℤ, ◌≤◌, ◌+◌, zero, suc, Bool, true, false, ◌||◌, List, [], ◌∷◌, ◌++◌, append_assoc, append-nil, Option, Some, None, drop, length, length-append, arith, ◌⊎◌, inl, inr}
+use Rattle.std.proofs.Common.{◌≡◌, ◌∙◌, sym, subst, ap, refl, ℕ, ℤ, ◌≤◌, ◌+◌, zero, suc, Bool, true, false, ◌||◌, List}
+use Rattle.std.proofs.Common.{[], ◌∷◌, ◌++◌, append_assoc, append-nil, Option, Some, None, drop, length, length-append}
+use Rattle.std.proofs.Common.{arith, ◌⊎◌, inl, inr}
 use Rattle.std.specs.List.{list_any}
 use Rattle.rif_terms.specs.declared.constant.Const.{Const}
-use Rattle.rif_terms.specs.declared.constant.Const.TheVariants.{Int as IntConst, Bool as BoolConst, Str as StrConst, Iri as IriConst, Local as LocalConst, Fresh}
+use Rattle.rif_terms.specs.declared.constant.Const.TheVariants.{Int as IntConst, Bool as BoolConst, Str as StrConst}
+use Rattle.rif_terms.specs.declared.constant.Const.TheVariants.{Iri as IriConst, Local as LocalConst, Fresh}
 use Rattle.prd_reader.specs.declared.leaf.Keyword.{Keyword}
 use Rattle.prd_reader.specs.declared.leaf.Keyword.TheVariants.{True, False}
 use Rattle.prd_reader.specs.declared.leaf.Literal.{Literal}
-use Rattle.prd_reader.specs.declared.leaf.Literal.TheVariants.{Integer, Boolean, String, Iri as IriLiteral, Local as LocalLiteral, OfNoType}
+use Rattle.prd_reader.specs.declared.leaf.Literal.TheVariants.{Integer, Boolean, String, Iri as IriLiteral}
+use Rattle.prd_reader.specs.declared.leaf.Literal.TheVariants.{Local as LocalLiteral, OfNoType}
 use Rattle.prd_reader.specs.declared.leaf.Leaf.{Leaf}
-use Rattle.prd_reader.specs.declared.leaf.Leaf.TheVariants.{Key, LeftOut, Word, Int, Str, Typed, Misspelled, TypeName, Iri, Curie, Builtin, Local, Var, Open, Close, OpenSquare, CloseSquare, Equal, Hash, Arrow, Carets}
-use Rattle.prd_reader.specs.FactForm.{HasNoRefusal, is_refused, ConstTrees, no_consts, consts, terms_of_consts, consts_value}
-use Rattle.prd_reader.specs.Trees.{ConstTree, const_int, const_string, const_typed, const_iri, const_curie, const_local, const_true, const_false, spell_const, NameTree, name_iri, name_curie, name_local, name_typed_iri, name_typed_local, const_of_name, spell_terms}
+use Rattle.prd_reader.specs.declared.leaf.Leaf.TheVariants.{Key, LeftOut, Word, Int, Str, Typed, Misspelled, TypeName}
+use Rattle.prd_reader.specs.declared.leaf.Leaf.TheVariants.{Iri, Curie, Builtin, Local, Var, Open, Close, OpenSquare}
+use Rattle.prd_reader.specs.declared.leaf.Leaf.TheVariants.{CloseSquare, Equal, Hash, Arrow, Carets}
+use Rattle.prd_reader.specs.FactForm.{HasNoRefusal, is_refused, ConstTrees, no_consts, consts, terms_of_consts}
+use Rattle.prd_reader.specs.FactForm.{consts_value}
+use Rattle.prd_reader.specs.Trees.{ConstTree, const_int, const_string, const_typed, const_iri, const_curie, const_local}
+use Rattle.prd_reader.specs.Trees.{const_true, const_false, spell_const, NameTree, name_iri, name_curie, name_local}
+use Rattle.prd_reader.specs.Trees.{name_typed_iri, name_typed_local, const_of_name, spell_terms}
 use Rattle.prd_reader.specs.Values.{const_value, literal_value}
-use Rattle.rif_script.specs.ReadingItems.{◌>>=◌, begins_close, const_behind, const_from, const_of, consts_from, is_name, literal_const, past_type, whole}
+use Rattle.rif_script.specs.ReadingItems.{◌>>=◌, begins_close, const_behind, const_from, const_of, consts_from, is_name}
+use Rattle.rif_script.specs.ReadingItems.{literal_const, past_type, whole}
 
 pub bind_some : {A B : Type 0} (o : Option A) (f : A → Option B) (y : B) → (o >>= f) ≡ Some y →
     (x : A) × (o ≡ Some x) × (f x ≡ Some y)
@@ -82,7 +92,8 @@ front_of tree c ls rest clear given =
 past_is : (ls rest : List Leaf) → past_type ls ≡ Some rest → ls ≡ Carets ∷ TypeName true ∷ rest
 past_is [] rest given = absurd (cc)
 past_is (Carets ∷ []) rest given = absurd (cc)
-past_is (Carets ∷ TypeName true ∷ ls) rest given = ap (λ (xs : List Leaf). Carets ∷ TypeName true ∷ xs) (some_same ls rest given)
+past_is (Carets ∷ TypeName true ∷ ls) rest given =
+    ap (λ (xs : List Leaf). Carets ∷ TypeName true ∷ xs) (some_same ls rest given)
 past_is (Carets ∷ TypeName false ∷ ls) rest given = absurd (cc)
 past_is (Carets ∷ _ ∷ ls) rest given = absurd (cc)
 past_is (_ ∷ ls) rest given = absurd (cc)
@@ -91,15 +102,35 @@ typed_front : (literal : Literal) (c : Const) (rest : List Leaf) → literal_con
     IsConstFront (Typed literal ∷ Carets ∷ TypeName true ∷ rest) c rest
 typed_front (Integer None) c rest given = absurd (cc)
 typed_front (Integer (Some z)) c rest given =
-    record { tree = const_typed (Integer (Some z)) true; spelled = refl; clear = refl; value = some_same (IntConst z) c given }
+    record {
+      tree = const_typed (Integer (Some z)) true;
+      spelled = refl;
+      clear = refl;
+      value = some_same (IntConst z) c given;
+    }
 typed_front (Boolean b) c rest given =
-    record { tree = const_typed (Boolean b) true; spelled = refl; clear = refl; value = some_same (BoolConst b) c given }
+    record {
+      tree = const_typed (Boolean b) true;
+      spelled = refl;
+      clear = refl;
+      value = some_same (BoolConst b) c given;
+    }
 typed_front (String t) c rest given =
     record { tree = const_typed (String t) true; spelled = refl; clear = refl; value = some_same (StrConst t) c given }
 typed_front (IriLiteral t) c rest given =
-    record { tree = const_typed (IriLiteral t) true; spelled = refl; clear = refl; value = some_same (IriConst t) c given }
+    record {
+      tree = const_typed (IriLiteral t) true;
+      spelled = refl;
+      clear = refl;
+      value = some_same (IriConst t) c given;
+    }
 typed_front (LocalLiteral t) c rest given =
-    record { tree = const_typed (LocalLiteral t) true; spelled = refl; clear = refl; value = some_same (LocalConst t) c given }
+    record {
+      tree = const_typed (LocalLiteral t) true;
+      spelled = refl;
+      clear = refl;
+      value = some_same (LocalConst t) c given;
+    }
 typed_front OfNoType c rest given = absurd (cc)
 
 -- what is read of a leaf and those behind it
@@ -121,12 +152,14 @@ leaf_read (Typed literal) ls c rest given =
     subst (λ (xs : List Leaf). IsConstFront (Typed literal ∷ xs) c rest) (sym behind) (typed_front literal c rest value)
 leaf_read _ ls c rest given = absurd (cc)
 
-pub const_read : (ls : List Leaf) (c : Const) (rest : List Leaf) → const_from ls ≡ Some (c, rest) → IsConstFront ls c rest
+pub const_read : (ls : List Leaf) (c : Const) (rest : List Leaf) → const_from ls ≡ Some (c, rest) →
+    IsConstFront ls c rest
 unfolding const_from
 const_read [] c rest given = absurd (cc)
 const_read (l ∷ ls) c rest given = leaf_read l ls c rest given
 
-typed_again : (literal : Literal) (known : Bool) (rest : List Leaf) → HasNoRefusal (spell_const (const_typed literal known)) →
+typed_again : (literal : Literal) (known : Bool) (rest : List Leaf) →
+    HasNoRefusal (spell_const (const_typed literal known)) →
     const_from (Typed literal ∷ Carets ∷ TypeName known ∷ rest) ≡ Some (literal_value literal, rest)
 unfolding const_from
 typed_again (Integer None) known rest clear = absurd (cc)
@@ -228,13 +261,16 @@ consts_read (suc n) ls cs rest given = elim (either (begins_close ls)) [
         value = same.0;
       }
   | inr no_ ↦
-      let step : consts_from (suc n) ls ≡ (const_from ls >>= λ c. consts_from n c.1 >>= λ more. Some (c.0 ∷ more.0, more.1)) =
+      let step : consts_from (suc n) ls ≡
+      (const_from ls >>= λ c. consts_from n c.1 >>= λ more. Some (c.0 ∷ more.0, more.1)) =
       rw no_ refl in
       let c = bind_some (const_from ls) _ (cs, rest) (sym step ∙ given) in
       let more = bind_some (consts_from n c.0.1) _ (cs, rest) c.2 in
       let same = found_same (c.0.0 ∷ more.0.0) cs more.0.1 rest more.2 in
-      let front = consts_front ls c.0.0 more.0.0 c.0.1 more.0.1 (const_read ls c.0.0 c.0.1 c.1) (consts_read n c.0.1 more.0.0 more.0.1 more.1) in
-      subst (λ (xs : List Leaf). IsConstsFront ls cs xs) same.1 (subst (λ (xs : List Const). IsConstsFront ls xs more.0.1) same.0 front)
+      let front = consts_front ls c.0.0 more.0.0 c.0.1 more.0.1 (const_read ls c.0.0 c.0.1 c.1)
+      (consts_read n c.0.1 more.0.0 more.0.1 more.1) in
+      subst (λ (xs : List Leaf). IsConstsFront ls cs xs) same.1
+      (subst (λ (xs : List Const). IsConstsFront ls xs more.0.1) same.0 front)
 ]
 
 -- a constant isn't that bracket

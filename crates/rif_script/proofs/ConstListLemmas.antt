@@ -1,5 +1,6 @@
 -- Constants that are read one after another, up to a bracket.
-use Rattle.std.proofs.Common.{◌≡◌, ◌∙◌, sym, ap, refl, ℕ, ◌+◌, ◌<◌, zero, suc, true, false, List, [], ◌∷◌, ◌++◌, append_assoc, append-nil, Option, Some, None, arith}
+use Rattle.std.proofs.Common.{◌≡◌, ◌∙◌, sym, ap, refl, ℕ, ◌+◌, ◌<◌, zero, suc, true, false, List, [], ◌∷◌, ◌++◌}
+use Rattle.std.proofs.Common.{append_assoc, append-nil, Option, Some, None, arith}
 use Rattle.std.specs.Prelude.{Ok, Err}
 use Rattle.std.specs.declared.result.Result.{Result}
 use Rattle.rif_terms.specs.declared.constant.Const.{Const}
@@ -43,7 +44,8 @@ module _ (front : List Const) (left m : ℕ) (ls : List Leaf) (all : Option (Lis
       let step : consts_from (suc m) ls ≡ None = rw (open_, none) refl in
       sym (same is) ∙ ap (consts_after front) step
 
-  pub consts_more : left ≡ suc m → begins_close ls ≡ false → (c : Const) (rest : List Leaf) → IsFound (const_from ls) c rest →
+  pub consts_more : left ≡ suc m → begins_close ls ≡ false → (c : Const) (rest : List Leaf) →
+      IsFound (const_from ls) c rest →
       consts_after (front ++ c ∷ []) (consts_from m rest) ≡ all
   unfolding consts_from
   consts_more is open_ c rest found =
@@ -58,7 +60,8 @@ module _ (front : List Const) (left m : ℕ) (ls : List Leaf) (all : Option (Lis
 -- what stands behind a bracket
 pub close_seen : (at rest : SentTokens) (l : Leaf) → seen at ≡ l ∷ leaves_past (l ∷ []) rest →
     begins_close (l ∷ []) ≡ true → seen at ≡ Close ∷ seen rest
-close_seen at rest Close is closed = is ∙ ap (λ (xs : List Leaf). Close ∷ xs) (calm_leaves rest.prefixes.now Close (texts_left rest) refl)
+close_seen at rest Close is closed =
+    is ∙ ap (λ (xs : List Leaf). Close ∷ xs) (calm_leaves rest.prefixes.now Close (texts_left rest) refl)
 close_seen at rest _ is closed = absurd (cc)
 
 open_tail : (l : Leaf) (ls : List Leaf) → begins_close (l ∷ []) ≡ false → begins_close (l ∷ ls) ≡ false

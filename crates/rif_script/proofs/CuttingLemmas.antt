@@ -44,7 +44,8 @@ pub goes_on : (done : List (List Entry)) (begun : List Entry) (entry : Entry) (e
 goes_on done begun entry entries h =
     let more : length (begun ++ entry ∷ []) ≡ length begun + 1 = length-append begun (entry ∷ []) in
     ap (λ (n : ℕ). done ++ joined_first (begun ++ entry ∷ []) (batches_behind n entries)) more
-    ∙ ap (λ (bs : List (List Entry)). done ++ bs) (joined_first-snoc begun entry (batches_behind (length begun + 1) entries))
+    ∙ ap (λ (bs : List (List Entry)). done ++ bs)
+    (joined_first-snoc begun entry (batches_behind (length begun + 1) entries))
     ∙ ap (λ (b : Bool). done ++ joined_first begun (batches_where b (length begun) entry entries)) (sym h)
 
 pub closes : (done : List (List Entry)) (begun : List Entry) (entry : Entry) (entries : List Entry) →
@@ -52,11 +53,13 @@ pub closes : (done : List (List Entry)) (begun : List Entry) (entry : Entry) (en
     batches_after (done ++ (begun ++ entry ∷ []) ∷ []) [] entries ≡ batches_after done begun (entry ∷ entries)
 closes done begun entry entries h =
     append_assoc done ((begun ++ entry ∷ []) ∷ []) (batches_behind 0 entries)
-    ∙ ap (λ (bs : List (List Entry)). done ++ bs) (sym (joined_first-batch begun (entry ∷ []) (batches_behind 0 entries)))
+    ∙ ap (λ (bs : List (List Entry)). done ++ bs)
+    (sym (joined_first-batch begun (entry ∷ []) (batches_behind 0 entries)))
     ∙ ap (λ (b : Bool). done ++ joined_first begun (batches_where b (length begun) entry entries)) (sym h)
 
 -- an entry that ends no batch joins the begun batch
-pub entry_joins : (all done : List (List Entry)) (begun more : List Entry) (entry : Entry) (items entries : List Entry) →
+pub entry_joins : (all done : List (List Entry)) (begun more : List Entry) (entry : Entry)
+    (items entries : List Entry) →
     ends_behind (length begun) entry.item ≡ false → more ≡ begun ++ entry ∷ [] → items ≡ entry ∷ entries →
     batches_after done begun items ≡ all → batches_after done more entries ≡ all
 entry_joins all done begun more entry items entries ends pushed first so_far =
@@ -64,7 +67,8 @@ entry_joins all done begun more entry items entries ends pushed first so_far =
     ∙ ap (batches_after done begun) (sym first) ∙ so_far
 
 -- an entry that ends a batch closes the begun batch
-pub entry_closes : (all done more : List (List Entry)) (begun batch next : List Entry) (entry : Entry) (items entries : List Entry) →
+pub entry_closes : (all done more : List (List Entry)) (begun batch next : List Entry) (entry : Entry)
+    (items entries : List Entry) →
     ends_behind (length begun) entry.item ≡ true → batch ≡ begun ++ entry ∷ [] → more ≡ done ++ batch ∷ [] →
     next ≡ [] → items ≡ entry ∷ entries →
     batches_after done begun items ≡ all → batches_after more next entries ≡ all
@@ -128,7 +132,8 @@ changes_last (e ∷ next ∷ begun) changes = (ends_no_batch e.item changes.0, c
 pub lawful_closed : (begun batch : List Entry) (entry : Entry) → length begun < MOST_BATCH_ITEMS → AreChanges begun →
     batch ≡ begun ++ entry ∷ [] → IsLawful batch
 lawful_closed begun batch entry room changes pushed =
-    subst IsLawful (sym pushed) (record { few = omega (arith, length-append begun (entry ∷ [])); ends_last = ends_last begun entry changes })
+    subst IsLawful (sym pushed)
+    (record { few = omega (arith, length-append begun (entry ∷ [])); ends_last = ends_last begun entry changes })
 
 pub lawful_begun : (begun : List Entry) → length begun < MOST_BATCH_ITEMS → AreChanges begun → IsLawful begun
 lawful_begun begun room changes = record { few = omega arith; ends_last = changes_last begun changes }
@@ -141,7 +146,9 @@ neither false b h = (refl, h)
 pub changes_joined : (begun more : List Entry) (entry : Entry) → AreChanges begun →
     ends_behind (length begun) entry.item ≡ false → more ≡ begun ++ entry ∷ [] → AreChanges more
 changes_joined begun more entry changes ends pushed =
-    subst AreChanges (sym pushed) (AreChanges-snoc begun entry changes (neither (is_control entry.item) (length begun + 1 == MOST_BATCH_ITEMS) ends).0)
+    subst AreChanges (sym pushed)
+    (AreChanges-snoc begun entry changes
+    (neither (is_control entry.item) (length begun + 1 == MOST_BATCH_ITEMS) ends).0)
 
 -- and it leaves room
 pub room_joined : (begun more : List Entry) (entry : Entry) → length begun < MOST_BATCH_ITEMS →

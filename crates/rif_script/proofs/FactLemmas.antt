@@ -1,17 +1,29 @@
 -- Facts, and what may be retracted: what is read is spelled so, and what is spelled so is read.
-use Rattle.std.proofs.Common.{◌≡◌, ◌∙◌, sym, subst, ap, refl, ℕ, ℤ, pos, negsuc, ◌≤◌, Bool, true, false, List, [], ◌∷◌, ◌++◌, append_assoc, append-nil, Option, Some, None, cond, length, arith, ◌⊎◌, inl, inr}
+use Rattle.std.proofs.Common.{◌≡◌, ◌∙◌, sym, subst, ap, refl, ℕ, ℤ, pos, negsuc, ◌≤◌, Bool, true, false, List, [], ◌∷◌}
+use Rattle.std.proofs.Common.{◌++◌, append_assoc, append-nil, Option, Some, None, cond, length, arith, ◌⊎◌, inl, inr}
 use Rattle.rif_terms.specs.declared.constant.Const.{Const}
 use Rattle.rif_terms.specs.declared.change.Change.{Change}
 use Rattle.rif_terms.specs.declared.change.Change.TheVariants.{Assert, Retract, RetractSlot, RetractObject, Modify}
 use Rattle.rif_terms.specs.declared.fact.Fact.{Fact}
 use Rattle.rif_terms.specs.declared.fact.Fact.TheVariants.{Atom, Frame, Member}
 use Rattle.prd_reader.specs.declared.leaf.Leaf.{Leaf}
-use Rattle.prd_reader.specs.declared.leaf.Leaf.TheVariants.{Key, LeftOut, Word, Int, Str, Typed, Misspelled, TypeName, Iri, Curie, Builtin, Local, Var, Open, Close, OpenSquare, CloseSquare, Equal, Hash, Arrow, Carets}
-use Rattle.prd_reader.specs.FactForm.{HasNoRefusal, ConstTrees, terms_of_consts, consts_value, FactTree, fact_member, fact_frame, fact_atom, spell_fact, fact_value, IsConstForm, IsConstsForm, IsFactForm, IsNumberForm}
-use Rattle.prd_reader.specs.Trees.{ConstTree, const_int, const_string, const_typed, const_iri, const_curie, const_local, const_true, const_false, spell_const, NameTree, const_of_name, spell_name, spell_terms}
+use Rattle.prd_reader.specs.declared.leaf.Leaf.TheVariants.{Key, LeftOut, Word, Int, Str, Typed, Misspelled, TypeName}
+use Rattle.prd_reader.specs.declared.leaf.Leaf.TheVariants.{Iri, Curie, Builtin, Local, Var, Open, Close, OpenSquare}
+use Rattle.prd_reader.specs.declared.leaf.Leaf.TheVariants.{CloseSquare, Equal, Hash, Arrow, Carets}
+use Rattle.prd_reader.specs.FactForm.{HasNoRefusal, ConstTrees, terms_of_consts, consts_value, FactTree, fact_member}
+use Rattle.prd_reader.specs.FactForm.{fact_frame, fact_atom, spell_fact, fact_value, IsConstForm, IsConstsForm}
+use Rattle.prd_reader.specs.FactForm.{IsFactForm, IsNumberForm}
+use Rattle.prd_reader.specs.Trees.{ConstTree, const_int, const_string, const_typed, const_iri, const_curie, const_local}
+use Rattle.prd_reader.specs.Trees.{const_true, const_false, spell_const, NameTree, const_of_name, spell_name}
+use Rattle.prd_reader.specs.Trees.{spell_terms}
 use Rattle.prd_reader.specs.Values.{const_value}
-use Rattle.rif_script.specs.ReadingItems.{◌>>=◌, atom_from, begins_fact_sign, const_from, consts_from, fact_behind, fact_from, fact_with, frame_from, is_fact_sign, is_name, member_from, modified_from, modify_of, natural_of, number_from, number_of, past_arrow, past_close_square, retracted_from, retracted_with, slot_with, whole}
-use Rattle.rif_script.proofs.ConstLemmas.{bind_some, clear_behind, clear_front, clear_joined, const_again, const_last, const_read, consts_again, consts_read, either, IsConstFront, IsConstsFront, IsFound, name_is, name_tree, nothing_left, some_leaf, some_same}
+use Rattle.rif_script.specs.ReadingItems.{◌>>=◌, atom_from, begins_fact_sign, const_from, consts_from, fact_behind}
+use Rattle.rif_script.specs.ReadingItems.{fact_from, fact_with, frame_from, is_fact_sign, is_name, member_from}
+use Rattle.rif_script.specs.ReadingItems.{modified_from, modify_of, natural_of, number_from, number_of, past_arrow}
+use Rattle.rif_script.specs.ReadingItems.{past_close_square, retracted_from, retracted_with, slot_with, whole}
+use Rattle.rif_script.proofs.ConstLemmas.{bind_some, clear_behind, clear_front, clear_joined, const_again, const_last}
+use Rattle.rif_script.proofs.ConstLemmas.{const_read, consts_again, consts_read, either, IsConstFront, IsConstsFront}
+use Rattle.rif_script.proofs.ConstLemmas.{IsFound, name_is, name_tree, nothing_left, some_leaf, some_same}
 
 same_front : (ls : List Leaf) (c : Const) (rest more : List Leaf) (is : rest ≡ more) → IsConstFront ls c rest →
     IsConstFront ls c more
@@ -78,7 +90,8 @@ frame_read o ls fact clear given =
     }
 
 atom_made : (n : NameTree) (ls : List Leaf) (cs : List Const) (fact : Fact) → HasNoRefusal (spell_name n) →
-    IsConstsFront ls cs [] → Atom (const_value (const_of_name n)) cs ≡ fact → IsFactForm (spell_name n ++ Open ∷ ls) fact
+    IsConstsFront ls cs [] → Atom (const_value (const_of_name n)) cs ≡ fact →
+    IsFactForm (spell_name n ++ Open ∷ ls) fact
 atom_made n ls cs fact clear front is =
     let behind = sym (append-nil (spell_terms (terms_of_consts front.trees))) ∙ front.spelled in
     record {
@@ -99,9 +112,11 @@ atom_read o ls fact clear given =
     let parts = if_some (is_name (const_value o)) _ fact given in
     let cs = bind_some (consts_from (length ls) ls) _ fact parts.1 in
     let end = nothing_left cs.0.1 (Atom (const_value o) cs.0.0) fact cs.2 in
-    let front = subst (λ (xs : List Leaf). IsConstsFront ls cs.0.0 xs) end.0 (consts_read (length ls) ls cs.0.0 cs.0.1 cs.1) in
+    let front = subst (λ (xs : List Leaf). IsConstsFront ls cs.0.0 xs) end.0
+    (consts_read (length ls) ls cs.0.0 cs.0.1 cs.1) in
     let n = name_tree o parts.0 in
-    let made = atom_made n.0 ls cs.0.0 fact (subst (λ (t : ConstTree). HasNoRefusal (spell_const t)) (sym n.1) clear) front
+    let made = atom_made n.0 ls cs.0.0 fact
+    (subst (λ (t : ConstTree). HasNoRefusal (spell_const t)) (sym n.1) clear) front
     (ap (λ (t : ConstTree). Atom (const_value t) cs.0.0) n.1 ∙ end.1) in
     subst (λ (t : ConstTree). IsFactForm (spell_const t ++ Open ∷ ls) fact) n.1 made
 
@@ -151,13 +166,16 @@ is_sign (fact_member o c) = refl
 is_sign (fact_frame o s v) = refl
 is_sign (fact_atom n cs) = refl
 
-frame_again : (o : Const) (s v : ConstTree) → HasNoRefusal (spell_const s ++ Arrow ∷ (spell_const v ++ CloseSquare ∷ [])) →
-    frame_from o (spell_const s ++ Arrow ∷ (spell_const v ++ CloseSquare ∷ [])) ≡ Some (Frame o (const_value s) (const_value v))
+frame_again : (o : Const) (s v : ConstTree) →
+    HasNoRefusal (spell_const s ++ Arrow ∷ (spell_const v ++ CloseSquare ∷ [])) →
+    frame_from o (spell_const s ++ Arrow ∷ (spell_const v ++ CloseSquare ∷ [])) ≡
+    Some (Frame o (const_value s) (const_value v))
 unfolding frame_from
 frame_again o s v clear =
     let inside = spell_const v ++ CloseSquare ∷ [] in
     let first = const_again s (Arrow ∷ inside) (clear_front (spell_const s) (Arrow ∷ inside) clear) in
-    let second = const_again v (CloseSquare ∷ []) (clear_front (spell_const v) (CloseSquare ∷ []) (clear_behind (spell_const s) (Arrow ∷ inside) clear)) in
+    let second = const_again v (CloseSquare ∷ [])
+    (clear_front (spell_const v) (CloseSquare ∷ []) (clear_behind (spell_const s) (Arrow ∷ inside) clear)) in
     rw (first, second) refl
 
 member_again : (o : Const) (c : ConstTree) → HasNoRefusal (spell_const c) →
@@ -166,7 +184,8 @@ unfolding member_from
 member_again o c clear = rw (const_last c clear) refl
 
 atom_again : (n : NameTree) (cs : ConstTrees) → HasNoRefusal (spell_terms (terms_of_consts cs)) →
-    atom_from (const_value (const_of_name n)) (spell_terms (terms_of_consts cs)) ≡ Some (Atom (const_value (const_of_name n)) (consts_value cs))
+    atom_from (const_value (const_of_name n)) (spell_terms (terms_of_consts cs)) ≡
+    Some (Atom (const_value (const_of_name n)) (consts_value cs))
 unfolding atom_from
 atom_again n cs clear =
     let ls = spell_terms (terms_of_consts cs) in
@@ -176,7 +195,8 @@ atom_again n cs clear =
 
 behind_again : (t : FactTree) → HasNoRefusal (spell_fact t) →
     fact_behind (const_value (first_tree t)) (behind_sign t) (sign_of t) ≡ Some (fact_value t)
-behind_again (fact_member o c) clear = member_again (const_value o) c (clear_behind (spell_const o) (Hash ∷ spell_const c) clear)
+behind_again (fact_member o c) clear =
+    member_again (const_value o) c (clear_behind (spell_const o) (Hash ∷ spell_const c) clear)
 behind_again (fact_frame o s v) clear =
     frame_again (const_value o) s v
     (clear_behind (spell_const o) (OpenSquare ∷ (spell_const s ++ Arrow ∷ (spell_const v ++ CloseSquare ∷ []))) clear)
@@ -184,7 +204,8 @@ behind_again (fact_atom n cs) clear =
     atom_again n cs (clear_behind (spell_name n) (Open ∷ spell_terms (terms_of_consts cs)) clear)
 
 first_clear : (t : FactTree) → HasNoRefusal (spell_fact t) → HasNoRefusal (spell_const (first_tree t))
-first_clear t clear = clear_front (spell_const (first_tree t)) (sign_of t ∷ behind_sign t) (subst HasNoRefusal (fact_cut t) clear)
+first_clear t clear =
+    clear_front (spell_const (first_tree t)) (sign_of t ∷ behind_sign t) (subst HasNoRefusal (fact_cut t) clear)
 
 first_again : (t : FactTree) → HasNoRefusal (spell_fact t) →
     IsFound (const_from (spell_fact t)) (const_value (first_tree t)) (sign_of t ∷ behind_sign t)
@@ -253,7 +274,8 @@ retracted_read ls change given =
     let o = bind_some (const_from ls) _ change given in
     let front = const_read ls o.0.0 o.0.1 o.1 in
     let here = subst (λ (c : Const). retracted_with c o.0.1 ≡ Some change) (sym front.value) o.2 in
-    subst (λ (xs : List Leaf). IsRetractForm xs change) front.spelled (retracted_with_read front.tree o.0.1 change front.clear here)
+    subst (λ (xs : List Leaf). IsRetractForm xs change) front.spelled
+    (retracted_with_read front.tree o.0.1 change front.clear here)
 
 -- a constant is no sign of a fact
 slot_found : (o : Const) (s : ConstTree) → retracted_with o (spell_const s) ≡ slot_with o (spell_const s)

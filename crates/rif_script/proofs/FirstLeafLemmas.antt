@@ -10,13 +10,16 @@ use Rattle.prd_reader.specs.declared.leaf.Leaf.TheVariants.{Int}
 use Rattle.prd_reader.specs.Leaves.{leaves_from}
 use Rattle.prd_reader.specs.Prefixes.{Prefixes}
 use Rattle.rif_script.specs.declared.sent_tokens.SentTokens.{SentTokens}
-use Rattle.rif_script.specs.ReadingItems.{◌>>=◌, const_behind, const_from, fact_behind, fact_retracted, fact_with, is_fact_sign, number_from, number_of, past_arrow, past_close_square, retracted_with, slot_behind, slot_with, whole}
+use Rattle.rif_script.specs.ReadingItems.{◌>>=◌, const_behind, const_from, fact_behind, fact_retracted, fact_with}
+use Rattle.rif_script.specs.ReadingItems.{is_fact_sign, number_from, number_of, past_arrow, past_close_square}
+use Rattle.rif_script.specs.ReadingItems.{retracted_with, slot_behind, slot_with, whole}
 use Rattle.rif_script.specs.SentLeaves.{leaves_past, seen, texts_left}
 use Rattle.rif_script.proofs.SentLeafLemmas.{arrow_calm, calm_leaves, close_square_calm, const_calm, fact_calm}
 
 -- what was read of the first leaf
 pub first_seen : (at rest : SentTokens) (l : Leaf) (found : Option (Leaf × SentTokens)) → found ≡ Some (l, rest) →
-    MatchOption found (seen at ≡ []) (λ (first : Leaf × SentTokens). seen at ≡ first.0 ∷ leaves_past (first.0 ∷ []) first.1) →
+    MatchOption found (seen at ≡ [])
+    (λ (first : Leaf × SentTokens). seen at ≡ first.0 ∷ leaves_past (first.0 ∷ []) first.1) →
     seen at ≡ l ∷ leaves_past (l ∷ []) rest
 first_seen at rest l None is read = absurd (cc)
 first_seen at rest l (Some first) is read =
@@ -43,7 +46,8 @@ close_square_first at rest l is = ap past_close_square is ∙ close_square_calm 
 -- nothing was read
 pub none_seen : (at : SentTokens) (found : Option (Leaf × SentTokens)) →
     ((first : Leaf × SentTokens) → found ≡ Some first → ⊥) →
-    MatchOption found (seen at ≡ []) (λ (first : Leaf × SentTokens). seen at ≡ first.0 ∷ leaves_past (first.0 ∷ []) first.1) →
+    MatchOption found (seen at ≡ [])
+    (λ (first : Leaf × SentTokens). seen at ≡ first.0 ∷ leaves_past (first.0 ∷ []) first.1) →
     seen at ≡ []
 none_seen at None never none = none
 none_seen at (Some first) never read = absurd (never first refl)
@@ -52,17 +56,21 @@ none_seen at (Some first) never read = absurd (never first refl)
 pub sign_first : (o : Const) (at rest : SentTokens) (l : Leaf) → seen at ≡ l ∷ leaves_past (l ∷ []) rest →
     is_fact_sign l ≡ true → retracted_with o (seen at) ≡ fact_retracted o (seen rest) l
 sign_first o at rest l is sign =
-    let step : retracted_with o (l ∷ leaves_past (l ∷ []) rest) ≡ fact_retracted o (leaves_past (l ∷ []) rest) l = rw sign refl in
+    let step : retracted_with o (l ∷ leaves_past (l ∷ []) rest) ≡ fact_retracted o (leaves_past (l ∷ []) rest) l =
+    rw sign refl in
     ap (retracted_with o) is
-    ∙ (step ∙ ap (λ (f : Option Fact). f >>= λ fact. Some (Retract fact)) (fact_calm o rest.prefixes.now l (texts_left rest)))
+    ∙ (step ∙ ap (λ (f : Option Fact). f >>= λ fact. Some (Retract fact))
+    (fact_calm o rest.prefixes.now l (texts_left rest)))
 
 pub slot_first : (o : Const) (at rest : SentTokens) (l : Leaf) → seen at ≡ l ∷ leaves_past (l ∷ []) rest →
     is_fact_sign l ≡ false → retracted_with o (seen at) ≡ slot_behind o (seen rest) l
 unfolding slot_with const_from
 slot_first o at rest l is sign =
-    let step : retracted_with o (l ∷ leaves_past (l ∷ []) rest) ≡ slot_behind o (leaves_past (l ∷ []) rest) l = rw sign refl in
+    let step : retracted_with o (l ∷ leaves_past (l ∷ []) rest) ≡ slot_behind o (leaves_past (l ∷ []) rest) l =
+    rw sign refl in
     ap (retracted_with o) is
-    ∙ (step ∙ ap (λ (f : Option (Const × List Leaf)). f >>= λ s. whole s.1 (RetractSlot o s.0)) (const_calm rest.prefixes.now l (texts_left rest)))
+    ∙ (step ∙ ap (λ (f : Option (Const × List Leaf)). f >>= λ s. whole s.1 (RetractSlot o s.0))
+    (const_calm rest.prefixes.now l (texts_left rest)))
 
 -- a number, by its leaf
 number_calm : (p : Prefixes) (l : Leaf) (ws : List Written) (n : ℕ) → number_of l ≡ Some n →
@@ -75,7 +83,8 @@ pub number_first : (at rest : SentTokens) (l : Leaf) (n : ℕ) → seen at ≡ l
 unfolding number_from
 number_first at rest l n is given =
     let step : number_from (l ∷ leaves_past (l ∷ []) rest) ≡ whole (leaves_past (l ∷ []) rest) n = rw given refl in
-    ap number_from is ∙ (step ∙ ap (λ (xs : List Leaf). whole xs n) (number_calm rest.prefixes.now l (texts_left rest) n given))
+    ap number_from is
+    ∙ (step ∙ ap (λ (xs : List Leaf). whole xs n) (number_calm rest.prefixes.now l (texts_left rest) n given))
 
 pub number_none : (at rest : SentTokens) (l : Leaf) → seen at ≡ l ∷ leaves_past (l ∷ []) rest →
     number_of l ≡ None → number_from (seen at) ≡ None

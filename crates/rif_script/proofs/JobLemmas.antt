@@ -1,6 +1,7 @@
 -- Jobs from their parts: what is read of an input's document and of its script is the job, and what refuses one of the
 -- two refuses the input.
-use Rattle.std.proofs.Common.{◌≡◌, ◌∙◌, refl, sym, subst, ap, ℕ, ◌+◌, ◌≤◌, ◌<◌, ◌^◌, ◌==◌, suc, Bool, true, false, cond, List, [], ◌∷◌, drop, length, length-drop, arith, ◌⊎◌, inl, inr}
+use Rattle.std.proofs.Common.{◌≡◌, ◌∙◌, refl, sym, subst, ap, ℕ, ◌+◌, ◌≤◌, ◌<◌, ◌^◌, ◌==◌, suc, Bool, true, false, cond}
+use Rattle.std.proofs.Common.{List, [], ◌∷◌, drop, length, length-drop, arith, ◌⊎◌, inl, inr}
 use Rattle.std.specs.Prelude.{Ok, Err, IfErr, IfOk}
 use Rattle.std.specs.Str.{IsValidUpTo}
 use Rattle.std.specs.declared.result.Result.{Result}
@@ -17,7 +18,8 @@ use Rattle.prd_reader.specs.Prefixes.{Prefixes}
 use Rattle.rif_script.specs.declared.job.Job.{Job}
 use Rattle.rif_script.specs.declared.script.Script.{Script}
 use Rattle.rif_script.specs.JobParts.{IsDocumentText, RefusesText}
-use Rattle.rif_script.specs.Jobs.{HasDocument, IsJob, IsScript, IsScriptRefusal, IsText, RefusesJob, document_text, first_script_line, is_separator, lines_before, lines_of, script_lines, with_byte}
+use Rattle.rif_script.specs.Jobs.{HasDocument, IsJob, IsScript, IsScriptRefusal, IsText, RefusesJob, document_text}
+use Rattle.rif_script.specs.Jobs.{first_script_line, is_separator, lines_before, lines_of, script_lines, with_byte}
 use Rattle.rif_script.specs.ReadingLines.{no_lines, with_lines}
 use Rattle.rif_script.proofs.ScriptReadingLemmas.{script_read, script_refused}
 
@@ -54,7 +56,8 @@ document_refused bytes text (Refused refusal) is whole (inr refused) = inr (inr 
 ))
 
 -- and what refuses its script does
-pub script_refuses : (bytes : List ℕ) (lines : List (List ℕ)) (at : ℕ) (doc : Doc) (prefixes : Prefixes) (fault : Fault) →
+pub script_refuses : (bytes : List ℕ) (lines : List (List ℕ)) (at : ℕ) (doc : Doc) (prefixes : Prefixes)
+    (fault : Fault) →
     lines ≡ script_lines bytes → at ≡ first_script_line bytes → IsText bytes → HasDocument bytes doc prefixes →
     Answers {T = Script} (Err fault) (with_lines prefixes at no_lines lines) → RefusesJob bytes fault
 script_refuses bytes lines at doc prefixes OutOfMemory is first whole document refused = tt
@@ -80,11 +83,13 @@ job_of bytes lines at doc prefixes s is whole document given = record {
   text = whole;
   prefixes = prefixes;
   document = document;
-  script = subst (λ (ls : List (List ℕ)). IsScript prefixes ls s.names s.items) is (script_read prefixes at lines s given);
+  script = subst (λ (ls : List (List ℕ)). IsScript prefixes ls s.names s.items) is
+      (script_read prefixes at lines s given);
 }
 
 -- the tokens of a text, or what refuses them
-pub unlexed : (text : List ℕ) (fault : Fault) → Answers {T = List Token} (Err fault) (lexed text) → RefusesText text fault
+pub unlexed : (text : List ℕ) (fault : Fault) → Answers {T = List Token} (Err fault) (lexed text) →
+    RefusesText text fault
 unlexed text OutOfMemory refused = tt
 unlexed text (Refused refusal) refused = inl refused
 
@@ -113,7 +118,8 @@ few_lines : (text : List ℕ) → length (lines_of text) ≤ length text
 few_lines [] = omega arith
 few_lines (b ∷ bs) =
     let more = few_lines bs in
-    elim (b == 10) as (λ (is : Bool). length (cond is ((b ∷ []) ∷ lines_of bs) (with_byte b (lines_of bs))) ≤ suc (length bs)) [
+    elim (b == 10) as (λ (is : Bool). length (cond is ((b ∷ []) ∷ lines_of bs) (with_byte b (lines_of bs))) ≤
+    suc (length bs)) [
       | true ↦ omega (arith, more)
       | false ↦ lines_with b (lines_of bs) (length bs) more
     ]

@@ -6,7 +6,8 @@ use Rattle.session_states.specs.declared.item.Item.{Item}
 use Rattle.session_states.specs.declared.item.Entry.{Entry}
 use Rattle.session_states.specs.Batches.{IsLawful}
 use Rattle.rif_script.specs.Cutting.{batches_behind, ends_behind, is_control, is_dispose, served_count, with_first}
-use Rattle.rif_script.specs.CuttingLaws.{AreEnded, AreCutLawfully, ControlsLast, CutEndsBatches, CutIsLawful, CutKeepsAll, joined, last_passes}
+use Rattle.rif_script.specs.CuttingLaws.{AreEnded, AreCutLawfully, ControlsLast, CutEndsBatches, CutIsLawful}
+use Rattle.rif_script.specs.CuttingLaws.{CutKeepsAll, joined, last_passes}
 use Rattle.rif_script.proofs.CuttingLemmas.{AreChanges, AreChanges-snoc, batches_after, batches_where, closes, goes_on}
 use Rattle.rif_script.proofs.CuttingLemmas.{joined_first-alone, lawful_begun, lawful_closed, neither, room_joined}
 
@@ -20,7 +21,8 @@ joined-with_first : (entry : Entry) (batches : List (List Entry)) (more : List E
 joined-with_first entry [] more = refl
 joined-with_first entry (batch ∷ batches) more = refl
 
-joined-batches_behind : (before : ℕ) (entries more : List Entry) → joined (batches_behind before entries) more ≡ entries ++ more
+joined-batches_behind : (before : ℕ) (entries more : List Entry) →
+    joined (batches_behind before entries) more ≡ entries ++ more
 joined-batches_behind before [] more = refl
 joined-batches_behind before (entry ∷ entries) more =
     elim (ends_behind before entry.item) as
@@ -53,7 +55,8 @@ served_by entry entries false is rest = disposes_last entry (take (served_count 
 
 served_disposes_last : (entries : List Entry) → DisposesLast (take (served_count entries) entries)
 served_disposes_last [] = tt
-served_disposes_last (entry ∷ entries) = served_by entry entries (is_dispose entry.item) refl (served_disposes_last entries)
+served_disposes_last (entry ∷ entries) =
+    served_by entry entries (is_dispose entry.item) refl (served_disposes_last entries)
 
 last_passes-snoc : (test : Item → Bool) (begun : List Entry) (entry : Entry) →
     last_passes test (begun ++ entry ∷ []) ≡ test entry.item
@@ -73,24 +76,29 @@ lawful_before : (batch : List Entry) (batches : List (List Entry)) → IsLawful 
 lawful_before batch [] lawful some other rest = (lawful, some)
 lawful_before batch (next ∷ batches) lawful some other rest = (lawful, some, other, rest)
 
-lawful_last : (begun : List Entry) → length begun < MOST_BATCH_ITEMS → AreChanges begun → AreCutLawfully (batches_after [] begun [])
+lawful_last : (begun : List Entry) → length begun < MOST_BATCH_ITEMS → AreChanges begun →
+    AreCutLawfully (batches_after [] begun [])
 lawful_last [] room changes = tt
 lawful_last (e ∷ begun) room changes = subst AreCutLawfully (sym (joined_first-alone e begun))
     (lawful_begun (e ∷ begun) room changes, some_entry e begun)
 
 -- the batches of what is begun and what is to come are lawful
 abbrev Lawful : List Entry → List Entry → Type 0
-Lawful begun entries = length begun < MOST_BATCH_ITEMS → AreChanges begun → AreCutLawfully (batches_after [] begun entries)
+Lawful begun entries =
+    length begun < MOST_BATCH_ITEMS → AreChanges begun → AreCutLawfully (batches_after [] begun entries)
 
 lawful_step : (begun : List Entry) (entry : Entry) (entries : List Entry) (ends : Bool) →
     ends_behind (length begun) entry.item ≡ ends → DisposesLast (entry ∷ entries) →
     Lawful [] entries → Lawful (begun ++ entry ∷ []) entries → Lawful begun (entry ∷ entries)
 lawful_step begun entry [] true is last anew on room changes =
-    subst AreCutLawfully (closes [] begun entry [] is) (lawful_closed begun (begun ++ entry ∷ []) entry room changes refl, not_empty begun entry)
+    subst AreCutLawfully (closes [] begun entry [] is)
+    (lawful_closed begun (begun ++ entry ∷ []) entry room changes refl, not_empty begun entry)
 lawful_step begun entry (next ∷ entries) true is last anew on room changes =
-    let other : last_passes is_dispose (begun ++ entry ∷ []) ≡ false = last_passes-snoc is_dispose begun entry ∙ last.0 in
+    let other : last_passes is_dispose (begun ++ entry ∷ []) ≡ false =
+    last_passes-snoc is_dispose begun entry ∙ last.0 in
     subst AreCutLawfully (closes [] begun entry (next ∷ entries) is)
-    (lawful_before (begun ++ entry ∷ []) (batches_behind 0 (next ∷ entries)) (lawful_closed begun (begun ++ entry ∷ []) entry room changes refl) (not_empty begun entry) other
+    (lawful_before (begun ++ entry ∷ []) (batches_behind 0 (next ∷ entries))
+    (lawful_closed begun (begun ++ entry ∷ []) entry room changes refl) (not_empty begun entry) other
     (anew (lit< tt) tt))
 lawful_step begun entry entries false is last anew on room changes =
     let change = neither (is_control entry.item) (length begun + 1 == MOST_BATCH_ITEMS) is in
@@ -137,7 +145,8 @@ ended_step : (begun : List Entry) (entry : Entry) (entries : List Entry) (ends :
     (AreChanges (begun ++ entry ∷ []) → AreEnded (batches_after [] (begun ++ entry ∷ []) entries)) →
     AreEnded (batches_after [] begun (entry ∷ entries))
 ended_step begun entry entries true is changes anew on =
-    let last : (last_passes is_control (begun ++ entry ∷ []) || length (begun ++ entry ∷ []) == MOST_BATCH_ITEMS) ≡ true =
+    let last : (last_passes is_control (begun ++ entry ∷ []) || length (begun ++ entry ∷ []) == MOST_BATCH_ITEMS) ≡
+    true =
     ap (λ (b : Bool). b || length (begun ++ entry ∷ []) == MOST_BATCH_ITEMS) (last_passes-snoc is_control begun entry)
     ∙ ap (λ (n : ℕ). is_control entry.item || n == MOST_BATCH_ITEMS) (length-append begun (entry ∷ []))
     ∙ is in

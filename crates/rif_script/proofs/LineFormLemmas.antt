@@ -1,5 +1,6 @@
 -- Lines of a script: what is read is of that form, and what is of that form is read.
-use Rattle.std.proofs.Common.{◌≡◌, ◌∙◌, sym, subst, ap, refl, ℕ, Bool, true, false, ◌&&◌, cond, List, [], ◌∷◌, Option, Some, None, ◌⊎◌, inl, inr}
+use Rattle.std.proofs.Common.{◌≡◌, ◌∙◌, sym, subst, ap, refl, ℕ, Bool, true, false, ◌&&◌, cond, List, [], ◌∷◌, Option}
+use Rattle.std.proofs.Common.{Some, None, ◌⊎◌, inl, inr}
 use Rattle.std.specs.Prelude.{codes, bytes_eq, map, Ok, Err}
 use Rattle.std.specs.declared.result.Result.{Result}
 use Rattle.rif_terms.specs.declared.constant.Const.{Const}
@@ -15,11 +16,15 @@ use Rattle.prd_reader.specs.declared.leaf.Leaf.{Leaf}
 use Rattle.prd_reader.specs.Prefixes.{Prefixes}
 use Rattle.session_states.specs.declared.item.Item.{Item}
 use Rattle.session_states.specs.declared.item.Item.TheVariants.{Change as Changing, Fire, Until, Halt, Dispose}
-use Rattle.rif_script.specs.Jobs.{IsItemForm, IsLine, IsSentForm, IsSentLine, is_client_name, is_comment, sent_leaves, word}
-use Rattle.rif_script.specs.ReadingItems.{◌>>=◌, asserted_from, fact_from, given_from, is_word_kind, item_from, modified_from, name_of, number_from, retracted_from, sent_from, whole, word_text}
+use Rattle.rif_script.specs.Jobs.{IsItemForm, IsLine, IsSentForm, IsSentLine, is_client_name, is_comment, sent_leaves}
+use Rattle.rif_script.specs.Jobs.{word}
+use Rattle.rif_script.specs.ReadingItems.{◌>>=◌, asserted_from, fact_from, given_from, is_word_kind, item_from}
+use Rattle.rif_script.specs.ReadingItems.{modified_from, name_of, number_from, retracted_from, sent_from, whole}
+use Rattle.rif_script.specs.ReadingItems.{word_text}
 use Rattle.rif_script.specs.ReadingLines.{given_tokens, line_at}
 use Rattle.rif_script.proofs.ConstLemmas.{bind_some, either, nothing_left, some_same}
-use Rattle.rif_script.proofs.FactLemmas.{IsRetractForm, fact_again, fact_read, modified_again, modified_read, number_again, number_read, retracted_again, retracted_read}
+use Rattle.rif_script.proofs.FactLemmas.{IsRetractForm, fact_again, fact_read, modified_again, modified_read}
+use Rattle.rif_script.proofs.FactLemmas.{number_again, number_read, retracted_again, retracted_read}
 use Rattle.rif_script.proofs.NumberingLemmas.{same_bytes}
 
 -- one of two, by a test of a text
@@ -46,7 +51,8 @@ module _ (prefixes : Prefixes) (more : List Written) where
   assert_read text item is given =
       let c = change_is (asserted_from (sent_leaves prefixes more)) item given in
       let fact = bind_some (fact_from (sent_leaves prefixes more)) _ c.0 c.1 in
-      subst (IsItemForm prefixes (word text ∷ more)) (ap (λ (x : Change). Changing x) (some_same (Assert fact.0) c.0 fact.2) ∙ c.2)
+      subst (IsItemForm prefixes (word text ∷ more))
+      (ap (λ (x : Change). Changing x) (some_same (Assert fact.0) c.0 fact.2) ∙ c.2)
       (more, behind text (codes "assert") is, fact_read (sent_leaves prefixes more) fact.0 fact.1)
 
   retract_form : (text : List ℕ) (change : Change) → text ≡ codes "retract" →
@@ -153,23 +159,68 @@ item_again : (prefixes : Prefixes) (ws : List Written) (item : Item) → IsItemF
     IsItemAgain prefixes ws item
 unfolding item_from asserted_from
 item_again prefixes ws (Changing (Assert fact)) form =
-    record { text = codes "assert"; more = form.0; front = form.1; read = rw (fact_again (sent_leaves prefixes form.0) fact form.2) refl }
+    record {
+      text = codes "assert";
+      more = form.0;
+      front = form.1;
+      read = rw (fact_again (sent_leaves prefixes form.0) fact form.2) refl;
+    }
 item_again prefixes ws (Changing (Retract fact)) form =
-    record { text = codes "retract"; more = form.0; front = form.1; read = rw (retracted_again (sent_leaves prefixes form.0) (Retract fact) form.2) refl }
+    record {
+      text = codes "retract";
+      more = form.0;
+      front = form.1;
+      read = rw (retracted_again (sent_leaves prefixes form.0) (Retract fact) form.2) refl;
+    }
 item_again prefixes ws (Changing (RetractSlot o s)) form =
-    record { text = codes "retract"; more = form.0; front = form.1; read = rw (retracted_again (sent_leaves prefixes form.0) (RetractSlot o s) form.2) refl }
+    record {
+      text = codes "retract";
+      more = form.0;
+      front = form.1;
+      read = rw (retracted_again (sent_leaves prefixes form.0) (RetractSlot o s) form.2) refl;
+    }
 item_again prefixes ws (Changing (RetractObject o)) form =
-    record { text = codes "retract"; more = form.0; front = form.1; read = rw (retracted_again (sent_leaves prefixes form.0) (RetractObject o) form.2) refl }
+    record {
+      text = codes "retract";
+      more = form.0;
+      front = form.1;
+      read = rw (retracted_again (sent_leaves prefixes form.0) (RetractObject o) form.2) refl;
+    }
 item_again prefixes ws (Changing (Modify o s v)) form =
-    record { text = codes "modify"; more = form.0; front = form.1; read = rw (modified_again (sent_leaves prefixes form.0) o s v form.2) refl }
+    record {
+      text = codes "modify";
+      more = form.0;
+      front = form.1;
+      read = rw (modified_again (sent_leaves prefixes form.0) o s v form.2) refl;
+    }
 item_again prefixes ws (Fire n) form =
-    record { text = codes "fire"; more = form.0; front = form.1; read = rw (number_again (sent_leaves prefixes form.0) n form.2) refl }
+    record {
+      text = codes "fire";
+      more = form.0;
+      front = form.1;
+      read = rw (number_again (sent_leaves prefixes form.0) n form.2) refl;
+    }
 item_again prefixes ws (Until n) form =
-    record { text = codes "until"; more = form.0; front = form.1; read = rw (number_again (sent_leaves prefixes form.0) n form.2) refl }
+    record {
+      text = codes "until";
+      more = form.0;
+      front = form.1;
+      read = rw (number_again (sent_leaves prefixes form.0) n form.2) refl;
+    }
 item_again prefixes ws Halt form =
-    record { text = codes "halt"; more = []; front = form.1 ∙ ap (λ (xs : List Written). word (codes "halt") ∷ xs) form.2; read = refl }
+    record {
+      text = codes "halt";
+      more = [];
+      front = form.1 ∙ ap (λ (xs : List Written). word (codes "halt") ∷ xs) form.2;
+      read = refl;
+    }
 item_again prefixes ws Dispose form =
-    record { text = codes "dispose"; more = []; front = form.1 ∙ ap (λ (xs : List Written). word (codes "dispose") ∷ xs) form.2; read = refl }
+    record {
+      text = codes "dispose";
+      more = [];
+      front = form.1 ∙ ap (λ (xs : List Written). word (codes "dispose") ∷ xs) form.2;
+      read = refl;
+    }
 
 word_kind : (k : Kind) → is_word_kind k ≡ true → k ≡ Word
 word_kind Word is = refl
@@ -220,7 +271,8 @@ name_again : (name : List ℕ) → is_client_name name ≡ true → name_of (wor
 unfolding name_of
 name_again name is = rw is refl
 
-sent_front : (prefixes : Prefixes) (name text : List ℕ) (more : List Written) (item : Item) → is_client_name name ≡ true →
+sent_front : (prefixes : Prefixes) (name text : List ℕ) (more : List Written) (item : Item) →
+    is_client_name name ≡ true →
     item_from text (sent_leaves prefixes more) ≡ Some item →
     sent_from prefixes (word name ∷ word text ∷ more) ≡ Some (name, item)
 unfolding sent_from
@@ -245,18 +297,21 @@ no_tokens : {A B : Type 0} (f : A → B) (xs : List A) → map f xs ≡ [] → x
 no_tokens f [] is = refl
 no_tokens f (x ∷ xs) is = absurd (cc)
 
-tokens_read : (prefixes : Prefixes) (line : List ℕ) (ts : List Token) (ws : List Written) (given : Option (List ℕ × Item)) →
+tokens_read : (prefixes : Prefixes) (line : List ℕ) (ts : List Token) (ws : List Written)
+    (given : Option (List ℕ × Item)) →
     is_comment line ≡ false → lexed line ≡ Ok ts → map (written line) ts ≡ ws → given_from prefixes ws ≡ Some given →
     IsLine prefixes line given
 tokens_read prefixes line ts [] None other is all read = inr (is ∙ ap Ok (no_tokens (written line) ts all))
 tokens_read prefixes line ts [] (Some sent) other is all read = absurd (cc)
 tokens_read prefixes line ts (w ∷ ws) given other is all read =
     let sent = bind_some (sent_from prefixes (w ∷ ws)) _ given read in
-    let form = subst (λ (xs : List Written). IsSentForm prefixes xs sent.0) (sym all) (sent_read prefixes (w ∷ ws) sent.0 sent.1) in
+    let form = subst (λ (xs : List Written). IsSentForm prefixes xs sent.0) (sym all)
+    (sent_read prefixes (w ∷ ws) sent.0 sent.1) in
     subst (IsLine prefixes line) (some_same (Some sent.0) given sent.2)
     (other, record { tokens = ts; lexed = is; form = form })
 
-pub line_read : (prefixes : Prefixes) (line : List ℕ) (given : Option (List ℕ × Item)) → line_at prefixes line ≡ Some given →
+pub line_read : (prefixes : Prefixes) (line : List ℕ) (given : Option (List ℕ × Item)) →
+    line_at prefixes line ≡ Some given →
     IsLine prefixes line given
 unfolding line_at
 line_read prefixes line given found = elim (either (is_comment line)) [
@@ -264,7 +319,8 @@ line_read prefixes line given found = elim (either (is_comment line)) [
       let step : line_at prefixes line ≡ Some None = rw is refl in
       subst (IsLine prefixes line) (some_same None given (sym step ∙ found)) (inl is)
   | inr other ↦
-      let step : line_at prefixes line ≡ (given_tokens (lexed line) >>= λ tokens. given_from prefixes (map (written line) tokens)) =
+      let step : line_at prefixes line ≡
+      (given_tokens (lexed line) >>= λ tokens. given_from prefixes (map (written line) tokens)) =
       rw other refl in
       let ts = bind_some (given_tokens (lexed line)) _ given (sym step ∙ found) in
       tokens_read prefixes line ts.0 (map (written line) ts.0) given other (ok_given (lexed line) ts.0 ts.1) refl ts.2

@@ -1,5 +1,7 @@
 -- The numbers of clients: a name keeps its place when others come behind it.
-use Rattle.std.proofs.Common.{◌≡◌, ◌∙◌, sym, subst, ap, refl, ℕ, ◌+◌, ◌<◌, ◌≤◌, ◌==◌, ◌||◌, suc, Bool, true, false, cond, List, [], ◌∷◌, ◌++◌, append_assoc, append-nil, length, length-append, All, arith, ◌⊎◌, inl, inr}
+use Rattle.std.proofs.Common.{◌≡◌, ◌∙◌, sym, subst, ap, refl, ℕ, ◌+◌, ◌<◌, ◌≤◌, ◌==◌, ◌||◌, suc, Bool, true, false}
+use Rattle.std.proofs.Common.{cond, List, [], ◌∷◌, ◌++◌, append_assoc, append-nil, length, length-append, All, arith}
+use Rattle.std.proofs.Common.{◌⊎◌, inl, inr}
 use Rattle.std.specs.Prelude.{bytes_eq}
 use Rattle.std.specs.List.{AllByRecursion}
 use Rattle.std.proofs.lemmas.List.Elements.{All-from_recursion}
@@ -97,8 +99,11 @@ names_grow names (one ∷ rest) = elim (either (has_name names one.0)) [
       let later = names_grow names rest in
       (later.0, ap (λ (b : Bool). names_after (cond b names (names ++ one.0 ∷ [])) rest) has ∙ later.1)
   | inr new ↦
-      let later = names_grow (names ++ one.0 ∷ []) rest in
-      (one.0 ∷ later.0, ap (λ (b : Bool). names_after (cond b names (names ++ one.0 ∷ [])) rest) new ∙ (later.1 ∙ append_assoc names (one.0 ∷ []) later.0))
+      let later = names_grow (names ++ one.0 ∷ []) rest in (
+        one.0 ∷ later.0,
+        ap (λ (b : Bool). names_after (cond b names (names ++ one.0 ∷ [])) rest) new
+            ∙ (later.1 ∙ append_assoc names (one.0 ∷ []) later.0),
+      )
 ]
 
 pub more_names : (names : List (List ℕ)) (sent : List (List ℕ × Item)) → length names ≤ length (names_after names sent)
@@ -207,7 +212,8 @@ clients_by : (names : List (List ℕ)) (sent : List (List ℕ × Item)) (most : 
 clients_by names [] most few = tt
 clients_by names (one ∷ rest) most few =
     let here : place_of names one.0 < length (names_with names one.0) =
-    subst (λ (k : ℕ). k < length (names_with names one.0)) (client_place names one.0) (place_within (names_with names one.0) one.0 (has_client names one.0)) in
+    subst (λ (k : ℕ). k < length (names_with names one.0)) (client_place names one.0)
+    (place_within (names_with names one.0) one.0 (has_client names one.0)) in
     let grow = more_names (names_with names one.0) rest in
     (omega arith, clients_by (names_with names one.0) rest most few)
 
@@ -215,6 +221,8 @@ pub all_of_clients : (sent : List (List ℕ × Item)) →
     All (λ (one : ℕ × Item). one.0 < length (names_of sent)) (numbered_items (names_of sent) sent)
 all_of_clients sent =
     let most = length (names_after [] sent) in
-    subst (λ (ns : List (List ℕ)). All (λ (one : ℕ × Item). one.0 < length ns) (numbered_items ns sent)) (names_are_first sent)
+    subst (λ (ns : List (List ℕ)). All (λ (one : ℕ × Item). one.0 < length ns) (numbered_items ns sent))
+    (names_are_first sent)
     (subst (λ (is : List (ℕ × Item)). All (λ (one : ℕ × Item). one.0 < most) is) (numbers_are_final [] sent)
-    (All-from_recursion (λ (one : ℕ × Item). one.0 < most) (numbered_from [] sent) (clients_by [] sent most (omega arith))))
+    (All-from_recursion (λ (one : ℕ × Item). one.0 < most) (numbered_from [] sent)
+    (clients_by [] sent most (omega arith))))

@@ -16,7 +16,8 @@ use Rattle.prd_reader.specs.Prefixes.{Prefixes}
 use Rattle.session_states.specs.declared.item.Item.{Item}
 use Rattle.rif_script.specs.declared.job.Job.{Job}
 use Rattle.rif_script.specs.declared.script.Script.{Script}
-use Rattle.rif_script.specs.Jobs.{HasDocument, HasDocumentRefusal, HasScriptRefusal, IsJob, IsRefused, IsScript, IsScriptRefusal, IsText, OneOutcome, document_text, first_script_line, script_lines}
+use Rattle.rif_script.specs.Jobs.{HasDocument, HasDocumentRefusal, HasScriptRefusal, IsJob, IsRefused, IsScript}
+use Rattle.rif_script.specs.Jobs.{IsScriptRefusal, IsText, OneOutcome, document_text, first_script_line, script_lines}
 use Rattle.rif_script.specs.ReadingLines.{no_lines, with_lines}
 use Rattle.rif_script.proofs.ScriptReadingLemmas.{refused_again, script_again}
 
@@ -47,7 +48,8 @@ script_or_refusal : (p q : Prefixes) (lines : List (List ℕ)) (at : ℕ) (names
 script_or_refusal p q lines at names items refusal same script refused =
     let s = script_again p at lines names items script in
     let r = refused_again q at lines refusal refused in
-    ok_err (with_lines q at no_lines lines) s.0 refusal (ap (λ (x : Prefixes). with_lines x at no_lines lines) (sym same) ∙ s.1) r
+    ok_err (with_lines q at no_lines lines) s.0 refusal
+    (ap (λ (x : Prefixes). with_lines x at no_lines lines) (sym same) ∙ s.1) r
 
 module _ (documents : OneDocument) (bytes : List ℕ) where
   same_documents : (a b : Doc) (p q : Prefixes) → HasDocument bytes a p → HasDocument bytes b q → (a ≡ b) × (p ≡ q)
@@ -71,7 +73,8 @@ module _ (documents : OneDocument) (bytes : List ℕ) where
 
   same_script_refusals : (a b : Refusal) → HasScriptRefusal bytes a → HasScriptRefusal bytes b → a ≡ b
   same_script_refusals a b first second =
-      let same = (same_documents first.doc second.doc first.prefixes second.prefixes first.document second.document).1 in
+      let same = (same_documents first.doc second.doc first.prefixes second.prefixes first.document
+      second.document).1 in
       let lines = script_lines bytes in
       let at = first_script_line bytes in
       let r = refused_again first.prefixes at lines a first.refused in
@@ -102,7 +105,8 @@ module _ (documents : OneDocument) (bytes : List ℕ) where
   no_text job refusal is (inr (inl x)) = read_or_refused job.doc is.prefixes refusal is.document x
   no_text job refusal is (inr (inr x)) =
       let same = (same_documents job.doc x.doc is.prefixes x.prefixes is.document x.document).1 in
-      script_or_refusal is.prefixes x.prefixes (script_lines bytes) (first_script_line bytes) job.names job.items refusal
+      script_or_refusal is.prefixes x.prefixes (script_lines bytes) (first_script_line bytes) job.names
+      job.items refusal
       same is.script x.refused
 
   no_refusal : (job : Job) (refusal : Refusal) → IsJob bytes job → IsRefused bytes refusal → ⊥

@@ -17,8 +17,10 @@ entry_with client rank item = record { client = client; rank = rank; item = item
 abbrev pub entry_behind : List (ℕ × Item) → ℕ × Item → Entry
 entry_behind before sent = entry_with sent.0 (sent_count sent.0 before) sent.1
 
-pub entries_after-drop : (items : List (ℕ × Item)) (i : ℕ) (sent : ℕ × Item) → i < length items → sent ≡ get_or items i sent →
-    entries_after (take i items) (drop i items) ≡ entry_behind (take i items) sent ∷ entries_after (take (i + 1) items) (drop (i + 1) items)
+pub entries_after-drop : (items : List (ℕ × Item)) (i : ℕ) (sent : ℕ × Item) → i < length items →
+    sent ≡ get_or items i sent →
+    entries_after (take i items) (drop i items) ≡
+    entry_behind (take i items) sent ∷ entries_after (take (i + 1) items) (drop (i + 1) items)
 entries_after-drop items i sent lt is =
     let rest : drop i items ≡ sent ∷ drop (i + 1) items =
     rw (add-one, drop-cons items i sent) (ap (λ (x : ℕ × Item). x ∷ drop (suc i) items) (sym is)) in
@@ -31,7 +33,8 @@ entries_after-drop items i sent lt is =
 same_entry : (c k r q : ℕ) (i j : Item) → c ≡ k → r ≡ q → i ≡ j → entry_with c r i ≡ entry_with k q j
 same_entry c k r q i j same_client same_rank same_item = cc
 
-pub made_more : (all entries more : List Entry) (items : List (ℕ × Item)) (i : ℕ) (sent : ℕ × Item) (rank : ℕ) (item : Item) →
+pub made_more : (all entries more : List Entry) (items : List (ℕ × Item)) (i : ℕ) (sent : ℕ × Item) (rank : ℕ)
+    (item : Item) →
     i < length items → sent ≡ get_or items i sent → rank ≡ sent_count sent.0 (take i items) → item ≡ sent.1 →
     more ≡ entries ++ entry_with sent.0 rank item ∷ [] → entries ++ entries_after (take i items) (drop i items) ≡ all →
     more ++ entries_after (take (i + 1) items) (drop (i + 1) items) ≡ all
@@ -47,7 +50,8 @@ made_more all entries more items i sent rank item lt is ranks copied pushed so_f
 
 count_at : (items : List (ℕ × Item)) (i : ℕ) (sent : ℕ × Item) (counts : List ℕ) (c : ℕ) (is_own : Bool) →
     (sent.0 == c) ≡ is_own →
-    i < length items → sent ≡ get_or items i sent → c < length counts → get_or counts c 0 ≡ sent_count c (take i items) →
+    i < length items → sent ≡ get_or items i sent → c < length counts →
+    get_or counts c 0 ≡ sent_count c (take i items) →
     get_or (set counts sent.0 (get_or counts sent.0 0 + 1)) c 0 ≡ sent_count c (take (i + 1) items)
 count_at items i sent counts c true own lt is in' counted =
     let client : sent.0 ≡ c = eqb-true sent.0 c own in
@@ -67,7 +71,8 @@ count_at items i sent counts c false other lt is in' counted =
 pub counted_more : (items : List (ℕ × Item)) (i : ℕ) (sent : ℕ × Item) (counts : List ℕ) (n : ℕ) → i < length items →
     sent ≡ get_or items i sent →
     n ≡ get_or counts sent.0 0 → ((c : ℕ) → c < length counts → get_or counts c 0 ≡ sent_count c (take i items)) →
-    (c : ℕ) → c < length (set counts sent.0 (n + 1)) → get_or (set counts sent.0 (n + 1)) c 0 ≡ sent_count c (take (i + 1) items)
+    (c : ℕ) → c < length (set counts sent.0 (n + 1)) →
+    get_or (set counts sent.0 (n + 1)) c 0 ≡ sent_count c (take (i + 1) items)
 counted_more items i sent counts n lt is read counted c in' =
     let within : c < length counts = subst (λ (k : ℕ). c < k) (length-set counts sent.0 (n + 1)) in' in
     ap (λ (m : ℕ). get_or (set counts sent.0 (m + 1)) c 0) read
@@ -75,7 +80,8 @@ counted_more items i sent counts n lt is read counted c in' =
 
 -- a client sent no more than all
 pub few_sent : (items : List (ℕ × Item)) (i c n : ℕ) → i ≤ length items → n ≡ sent_count c (take i items) → n ≤ i
-few_sent items i c n in' counted = omega (arith, count_by-le-length (λ (x : ℕ × Item). x.0 == c) (take i items), length-take-le i items in')
+few_sent items i c n in' counted =
+    omega (arith, count_by-le-length (λ (x : ℕ × Item). x.0 == c) (take i items), length-take-le i items in')
 
 -- an item of the list is of a known client
 pub client_known : (items all : List (ℕ × Item)) (i : ℕ) (sent : ℕ × Item) (n m : ℕ) →

@@ -1,5 +1,7 @@
 -- Scripts: what is read is of that form, and what is of that form is read; and so with what is refused.
-use Rattle.std.proofs.Common.{◌≡◌, ◌∙◌, sym, subst, ap, refl, ℕ, ◌+◌, ◌<◌, ◌≤◌, nat_le, nat_lt, not, ◌&&◌, suc, Bool, true, false, cond, List, [], ◌∷◌, ◌++◌, append_assoc, append-nil, Option, Some, None, length, length-append, arith, ◌⊎◌, inl, inr}
+use Rattle.std.proofs.Common.{◌≡◌, ◌∙◌, sym, subst, ap, refl, ℕ, ◌+◌, ◌<◌, ◌≤◌, nat_le, nat_lt, not, ◌&&◌, suc, Bool}
+use Rattle.std.proofs.Common.{true, false, cond, List, [], ◌∷◌, ◌++◌, append_assoc, append-nil, Option, Some, None}
+use Rattle.std.proofs.Common.{length, length-append, arith, ◌⊎◌, inl, inr}
 use Rattle.std.specs.Prelude.{map, Ok, Err}
 use Rattle.std.specs.declared.result.Result.{Result}
 use Rattle.std.proofs.lemmas.Bool.Decides.{nat_tests}
@@ -10,8 +12,10 @@ use Rattle.prd_reader.specs.Prefixes.{Prefixes}
 use Rattle.prd_reader.specs.Values.{has_name, place_of, with_name}
 use Rattle.session_states.specs.declared.item.Item.{Item}
 use Rattle.rif_script.specs.declared.script.Script.{Script}
-use Rattle.rif_script.specs.Jobs.{AreLines, IsFaulty, IsLine, IsScript, IsScriptRefusal, IsWithinLimits, budget_of, budget_sum, names_of, numbered_items, sent_by}
-use Rattle.rif_script.specs.ReadingLines.{and_then, line_at, no_lines, script_with, with_given, with_line, with_lines, with_sent}
+use Rattle.rif_script.specs.Jobs.{AreLines, IsFaulty, IsLine, IsScript, IsScriptRefusal, IsWithinLimits, budget_of}
+use Rattle.rif_script.specs.Jobs.{budget_sum, names_of, numbered_items, sent_by}
+use Rattle.rif_script.specs.ReadingLines.{and_then, line_at, no_lines, script_with, with_given, with_line, with_lines}
+use Rattle.rif_script.specs.ReadingLines.{with_sent}
 use Rattle.rif_script.proofs.ConstLemmas.{either}
 use Rattle.rif_script.proofs.LineFormLemmas.{line_again, line_read, no_line}
 use Rattle.rif_script.proofs.NumberingLemmas.{names_after, names_are_first, numbered_from, numbers_are_final}
@@ -37,7 +41,8 @@ budgets_are : (s : Script) (sent : List (List ℕ × Item)) → (script_after s 
 budgets_are s [] = omega arith
 budgets_are s (one ∷ rest) = let more = budgets_are (script_with s one) rest in more ∙ omega arith
 
-count_is : (s : Script) (sent : List (List ℕ × Item)) → length (script_after s sent).items ≡ length s.items + length sent
+count_is : (s : Script) (sent : List (List ℕ × Item)) →
+    length (script_after s sent).items ≡ length s.items + length sent
 count_is s [] = omega arith
 count_is s (one ∷ rest) =
     let more = count_is (script_with s one) rest in
@@ -136,7 +141,8 @@ limits_of at all given =
 limits_same : (at : ℕ) (s : Script) (one : List ℕ × Item) (all : List (List ℕ × Item)) →
     nat_lt MOST_BUDGETS (s.budgets + budget_of one.1) ≡ nat_lt MOST_BUDGETS (budget_sum all) →
     nat_le MOST_ITEMS (length s.items) ≡ nat_lt MOST_ITEMS (length all) →
-    (not (has_name s.names one.0) && nat_le MOST_CLIENTS (length s.names)) ≡ nat_lt MOST_CLIENTS (length (names_of all)) →
+    (not (has_name s.names one.0) && nat_le MOST_CLIENTS (length s.names)) ≡
+    nat_lt MOST_CLIENTS (length (names_of all)) →
     with_sent at s one ≡ limits_of at all (Ok (script_with s one))
 unfolding with_sent
 limits_same at s one all budgets items clients = rw (budgets, items, clients) refl
@@ -146,11 +152,13 @@ pub with_sent_is : (at : ℕ) (sent : List (List ℕ × Item)) (one : List ℕ �
 unfolding with_sent
 with_sent_is at sent one within =
     let few = subst (λ (ns : List (List ℕ)). length ns ≤ MOST_CLIENTS) (sym (final_names sent)) within.few_clients in
-    let budgets : nat_lt MOST_BUDGETS ((script_of sent).budgets + budget_of one.1) ≡ nat_lt MOST_BUDGETS (budget_sum (sent ++ one ∷ [])) =
+    let budgets : nat_lt MOST_BUDGETS ((script_of sent).budgets + budget_of one.1) ≡
+    nat_lt MOST_BUDGETS (budget_sum (sent ++ one ∷ [])) =
     ap (nat_lt MOST_BUDGETS) (budget_more sent one) in
     let items : nat_le MOST_ITEMS (length (script_of sent).items) ≡ nat_lt MOST_ITEMS (length (sent ++ one ∷ [])) =
     full_is MOST_ITEMS (length (script_of sent).items) ∙ ap (nat_lt MOST_ITEMS) (count_more sent one) in
-    let clients : (not (has_name (script_of sent).names one.0) && nat_le MOST_CLIENTS (length (script_of sent).names)) ≡ nat_lt MOST_CLIENTS (length (names_of (sent ++ one ∷ []))) =
+    let clients : (not (has_name (script_of sent).names one.0) && nat_le MOST_CLIENTS (length (script_of sent).names)) ≡
+    nat_lt MOST_CLIENTS (length (names_of (sent ++ one ∷ []))) =
     name_count (script_of sent).names one.0 MOST_CLIENTS few
     ∙ ap (λ (ns : List (List ℕ)). nat_lt MOST_CLIENTS (length ns)) (names_more sent one) in
     let tests = limits_same at (script_of sent) one (sent ++ one ∷ []) budgets items clients in
@@ -179,7 +187,8 @@ limits_ok at all s end given = elim (either (nat_lt MOST_BUDGETS (budget_sum all
   ]
 ]
 
-pub limits_keep : (at : ℕ) (all : List (List ℕ × Item)) (s : Script) → IsWithinLimits all → limits_of at all (Ok s) ≡ Ok s
+pub limits_keep : (at : ℕ) (all : List (List ℕ × Item)) (s : Script) → IsWithinLimits all →
+    limits_of at all (Ok s) ≡ Ok s
 limits_keep at all s within =
     rw (
       above_isnt MOST_BUDGETS (budget_sum all) within.few_budgets,

@@ -1,5 +1,7 @@
 -- The lines of a script one after another: what is read of them is their script, and what refuses them is its refusal.
-use Rattle.std.proofs.Common.{◌≡◌, ◌∙◌, sym, subst, ap, refl, ℕ, ◌+◌, ◌<◌, ◌≤◌, nat_lt, suc, Bool, true, false, List, [], ◌∷◌, ◌++◌, append_assoc, append-nil, Option, Some, None, length, length-append, arith, All, ◌⊎◌, inl, inr}
+use Rattle.std.proofs.Common.{◌≡◌, ◌∙◌, sym, subst, ap, refl, ℕ, ◌+◌, ◌<◌, ◌≤◌, nat_lt, suc, Bool, true, false, List}
+use Rattle.std.proofs.Common.{[], ◌∷◌, ◌++◌, append_assoc, append-nil, Option, Some, None, length, length-append, arith}
+use Rattle.std.proofs.Common.{All, ◌⊎◌, inl, inr}
 use Rattle.std.specs.Prelude.{Ok, Err}
 use Rattle.std.specs.declared.result.Result.{Result}
 use Rattle.rif_terms.specs.declared.limits.TheConstants.{MOST_CLIENTS, MOST_ITEMS, MOST_BUDGETS}
@@ -9,11 +11,14 @@ use Rattle.prd_reader.specs.Prefixes.{Prefixes}
 use Rattle.session_states.specs.declared.item.Item.{Item}
 use Rattle.rif_script.specs.declared.script.Script.{Script}
 use Rattle.rif_script.specs.Cutting.{AreOfClients}
-use Rattle.rif_script.specs.Jobs.{AreLines, IsFaulty, IsLine, IsScript, IsScriptRefusal, IsWithinLimits, budget_of, budget_sum, names_of, numbered_items, sent_by}
+use Rattle.rif_script.specs.Jobs.{AreLines, IsFaulty, IsLine, IsScript, IsScriptRefusal, IsWithinLimits, budget_of}
+use Rattle.rif_script.specs.Jobs.{budget_sum, names_of, numbered_items, sent_by}
 use Rattle.rif_script.specs.ReadingLines.{and_then, line_at, no_lines, with_given, with_line, with_lines}
 use Rattle.rif_script.proofs.LineFormLemmas.{line_again, line_read, no_line}
 use Rattle.rif_script.proofs.NumberingLemmas.{all_of_clients, more_names, names_after}
-use Rattle.rif_script.proofs.ScriptFormLemmas.{above_is, above_isnt, after_joined, final_items, final_names, limits_err, limits_keep, limits_of, limits_ok, names_are, script_after, script_of, with_sent_is}
+use Rattle.rif_script.proofs.ScriptFormLemmas.{above_is, above_isnt, after_joined, final_items, final_names, limits_err}
+use Rattle.rif_script.proofs.ScriptFormLemmas.{limits_keep, limits_of, limits_ok, names_are, script_after, script_of}
+use Rattle.rif_script.proofs.ScriptFormLemmas.{with_sent_is}
 
 -- what one line sends
 abbrev sent_one : Option (List ℕ × Item) → List (List ℕ × Item)
@@ -35,7 +40,8 @@ record IsLineOf (prefixes : Prefixes) (sent : List (List ℕ × Item)) (line : L
 same_limits : (xs ys : List (List ℕ × Item)) → xs ≡ ys → IsWithinLimits xs → IsWithinLimits ys
 same_limits xs ys same within = subst IsWithinLimits same within
 
-module _ (prefixes : Prefixes) (at : ℕ) (sent : List (List ℕ × Item)) (line : List ℕ) (within : IsWithinLimits sent) where
+module _ (prefixes : Prefixes) (at : ℕ) (sent : List (List ℕ × Item)) (line : List ℕ)
+    (within : IsWithinLimits sent) where
   found_ok : (found : Option (Option (List ℕ × Item))) (next : Script) → line_at prefixes line ≡ found →
       with_given at (script_of sent) found ≡ Ok next → IsLineOf prefixes sent line next
   found_ok None next is given = absurd (cc)
@@ -48,7 +54,8 @@ module _ (prefixes : Prefixes) (at : ℕ) (sent : List (List ℕ × Item)) (line
         after = ap script_of (append-nil sent) ∙ same;
       }
   found_ok (Some (Some one)) next is given =
-      let all = limits_ok at (sent ++ one ∷ []) (script_of (sent ++ one ∷ [])) next (sym (with_sent_is at sent one within) ∙ given) in
+      let all = limits_ok at (sent ++ one ∷ []) (script_of (sent ++ one ∷ [])) next
+      (sym (with_sent_is at sent one within) ∙ given) in
       record { given = Some one; is = line_read prefixes line (Some one) is; within = all.0; after = all.1 }
 
   line_ok : (next : Script) → with_line prefixes at (script_of sent) line ≡ Ok next → IsLineOf prefixes sent line next
@@ -62,7 +69,8 @@ module _ (prefixes : Prefixes) (at : ℕ) (sent : List (List ℕ × Item)) (line
       subst (IsFaulty prefixes sent line at) same (refl, no_line prefixes line is)
   found_err (Some None) refusal is given = absurd (cc)
   found_err (Some (Some one)) refusal is given =
-      limits_err prefixes at sent one line (script_of (sent ++ one ∷ [])) refusal (line_read prefixes line (Some one) is)
+      limits_err prefixes at sent one line (script_of (sent ++ one ∷ [])) refusal
+      (line_read prefixes line (Some one) is)
       (sym (with_sent_is at sent one within) ∙ given)
 
   line_err : (refusal : Refusal) → with_line prefixes at (script_of sent) line ≡ Err refusal →
@@ -74,18 +82,21 @@ module _ (prefixes : Prefixes) (at : ℕ) (sent : List (List ℕ × Item)) (line
       with_line prefixes at (script_of sent) line ≡ Ok (script_of (sent ++ sent_one given))
   unfolding with_line
   line_keep None is few =
-      ap (with_given at (script_of sent)) (line_again prefixes line None is) ∙ ap (λ (xs : List (List ℕ × Item)). Ok (script_of xs)) (sym (append-nil sent))
+      ap (with_given at (script_of sent)) (line_again prefixes line None is)
+      ∙ ap (λ (xs : List (List ℕ × Item)). Ok (script_of xs)) (sym (append-nil sent))
   line_keep (Some one) is few =
       ap (with_given at (script_of sent)) (line_again prefixes line (Some one) is)
       ∙ (with_sent_is at sent one within ∙ limits_keep at (sent ++ one ∷ []) (script_of (sent ++ one ∷ [])) few)
 
   bad_found : (found : Option (Option (List ℕ × Item))) → line_at prefixes line ≡ found →
-      ((given : Option (List ℕ × Item)) → IsLine prefixes line given → ⊥) → with_given at (script_of sent) found ≡ Err (BadLine at)
+      ((given : Option (List ℕ × Item)) → IsLine prefixes line given → ⊥) →
+      with_given at (script_of sent) found ≡ Err (BadLine at)
   bad_found None is never = refl
   bad_found (Some given) is never = absurd (never given (line_read prefixes line given is))
 
   item_found : (one : List ℕ × Item) → IsLine prefixes line (Some one) →
-      with_given at (script_of sent) (line_at prefixes line) ≡ limits_of at (sent ++ one ∷ []) (Ok (script_of (sent ++ one ∷ [])))
+      with_given at (script_of sent) (line_at prefixes line) ≡
+      limits_of at (sent ++ one ∷ []) (Ok (script_of (sent ++ one ∷ [])))
   item_found one is =
       ap (with_given at (script_of sent)) (line_again prefixes line (Some one) is) ∙ with_sent_is at sent one within
 
@@ -116,7 +127,8 @@ module _ (prefixes : Prefixes) (at : ℕ) (sent : List (List ℕ × Item)) (line
   line_faulty _ faulty = absurd faulty
 
 -- what of lines leads to a script
-record AreLinesOf (prefixes : Prefixes) (sent : List (List ℕ × Item)) (lines : List (List ℕ)) (end : Script) : Type 0 where
+record AreLinesOf (prefixes : Prefixes) (sent : List (List ℕ × Item)) (lines : List (List ℕ))
+    (end : Script) : Type 0 where
   given : List (Option (List ℕ × Item))
   are : AreLines prefixes lines given
   within : IsWithinLimits (sent ++ sent_by given)
@@ -153,7 +165,8 @@ lines_ok prefixes at sent (line ∷ lines) end within given =
     }
 
 -- where lines are refused
-record AreRefusedAt (prefixes : Prefixes) (at : ℕ) (sent : List (List ℕ × Item)) (lines : List (List ℕ)) (refusal : Refusal) : Type 0 where
+record AreRefusedAt (prefixes : Prefixes) (at : ℕ) (sent : List (List ℕ × Item)) (lines : List (List ℕ))
+    (refusal : Refusal) : Type 0 where
   before : List (List ℕ)
   line : List ℕ
   behind : List (List ℕ)
@@ -163,7 +176,8 @@ record AreRefusedAt (prefixes : Prefixes) (at : ℕ) (sent : List (List ℕ × I
   within : IsWithinLimits (sent ++ sent_by given)
   faulty : IsFaulty prefixes (sent ++ sent_by given) line (at + length before) refusal
 
-then_err : (r : Result Script Refusal) (f : Script → Result Script Refusal) (refusal : Refusal) → and_then r f ≡ Err refusal →
+then_err : (r : Result Script Refusal) (f : Script → Result Script Refusal) (refusal : Refusal) →
+    and_then r f ≡ Err refusal →
     (r ≡ Err refusal) ⊎ ((next : Script) × (r ≡ Ok next) × (f next ≡ Err refusal))
 then_err (Ok next) f refusal given = inr (next, refl, given)
 then_err (Err other) f refusal given = inl given
@@ -185,7 +199,8 @@ lines_err prefixes at sent (line ∷ lines) refusal within given =
             given = [];
             are = tt;
             within = same_limits sent (sent ++ []) (sym (append-nil sent)) within;
-            faulty = subst (λ (xs : List (List ℕ × Item)). IsFaulty prefixes xs line (at + 0) refusal) (sym (append-nil sent))
+            faulty = subst (λ (xs : List (List ℕ × Item)). IsFaulty prefixes xs line (at + 0) refusal)
+                (sym (append-nil sent))
                 (subst (λ (n : ℕ). IsFaulty prefixes sent line n refusal) here_at faulty);
           }
       | inr next ↦
@@ -203,9 +218,13 @@ lines_err prefixes at sent (line ∷ lines) refusal within given =
             cut = ap (λ (ls : List (List ℕ)). line ∷ ls) more.cut;
             given = here.given ∷ more.given;
             are = (here.is, more.are);
-            within = same_limits (all ++ sent_by more.given) (sent ++ sent_by (here.given ∷ more.given)) same more.within;
-            faulty = subst (λ (xs : List (List ℕ × Item)). IsFaulty prefixes xs more.line (at + suc (length more.before)) refusal) same
-                (subst (λ (n : ℕ). IsFaulty prefixes (all ++ sent_by more.given) more.line n refusal) number more.faulty);
+            within = same_limits (all ++ sent_by more.given) (sent ++ sent_by (here.given ∷ more.given))
+                same more.within;
+            faulty = subst
+                (λ (xs : List (List ℕ × Item)). IsFaulty prefixes xs more.line (at + suc (length more.before)) refusal)
+                same
+                (subst (λ (n : ℕ). IsFaulty prefixes (all ++ sent_by more.given) more.line n refusal)
+                number more.faulty);
           }
     ]
 
@@ -238,7 +257,8 @@ front_within xs ys within =
 lines_keep : (prefixes : Prefixes) (at : ℕ) (sent : List (List ℕ × Item)) (lines : List (List ℕ))
     (given : List (Option (List ℕ × Item))) → AreLines prefixes lines given → IsWithinLimits (sent ++ sent_by given) →
     with_lines prefixes at (script_of sent) lines ≡ Ok (script_of (sent ++ sent_by given))
-lines_keep prefixes at sent [] [] are within = ap (λ (xs : List (List ℕ × Item)). Ok (script_of xs)) (sym (append-nil sent))
+lines_keep prefixes at sent [] [] are within =
+    ap (λ (xs : List (List ℕ × Item)). Ok (script_of xs)) (sym (append-nil sent))
 lines_keep prefixes at sent [] (one ∷ given) are within = absurd are
 lines_keep prefixes at sent (line ∷ lines) [] are within = absurd are
 lines_keep prefixes at sent (line ∷ lines) (one ∷ given) are within =
@@ -248,7 +268,8 @@ lines_keep prefixes at sent (line ∷ lines) (one ∷ given) are within =
     let here = front_within all (sent_by given) few in
     let first = line_keep prefixes at sent line (front_within sent (sent_one one) here) one are.0 here in
     ap (λ (r : Result Script Refusal). and_then r (λ next. with_lines prefixes (suc at) next lines)) first
-    ∙ (lines_keep prefixes (suc at) all lines given are.1 few ∙ ap (λ (xs : List (List ℕ × Item)). Ok (script_of xs)) same)
+    ∙ (lines_keep prefixes (suc at) all lines given are.1 few
+    ∙ ap (λ (xs : List (List ℕ × Item)). Ok (script_of xs)) same)
 
 lines_joined : (prefixes : Prefixes) (at : ℕ) (s next : Script) (before more : List (List ℕ)) →
     with_lines prefixes at s before ≡ Ok next →
@@ -285,7 +306,8 @@ script_read prefixes at lines s given =
     }
 
 -- what is a script of lines is read
-pub script_again : (prefixes : Prefixes) (at : ℕ) (lines : List (List ℕ)) (names : List (List ℕ)) (items : List (ℕ × Item)) →
+pub script_again : (prefixes : Prefixes) (at : ℕ) (lines : List (List ℕ)) (names : List (List ℕ))
+    (items : List (ℕ × Item)) →
     IsScript prefixes lines names items →
     (s : Script) × (with_lines prefixes at no_lines lines ≡ Ok s) × (s.names ≡ names) × (s.items ≡ items)
 script_again prefixes at lines names items is =
@@ -320,7 +342,8 @@ refused_again prefixes at lines refusal is =
     let here = line_faulty prefixes (at + length is.before) sent is.line is.within refusal is.faulty in
     ap (with_lines prefixes at no_lines) is.cut
     ∙ (lines_joined prefixes at no_lines (script_of sent) is.before (is.line ∷ is.behind) before
-    ∙ ap (λ (r : Result Script Refusal). and_then r (λ next. with_lines prefixes (suc (at + length is.before)) next is.behind)) here)
+    ∙ ap (λ (r : Result Script Refusal). and_then r
+    (λ next. with_lines prefixes (suc (at + length is.before)) next is.behind)) here)
 
 -- a script's items are of its clients
 pub script_clients : (prefixes : Prefixes) (lines : List (List ℕ)) (names : List (List ℕ)) (items : List (ℕ × Item)) →
@@ -328,5 +351,6 @@ pub script_clients : (prefixes : Prefixes) (lines : List (List ℕ)) (names : Li
 script_clients prefixes lines names items is =
     let sent = sent_by is.given in
     let all : All (λ (one : ℕ × Item). one.0 < length names) (numbered_items names sent) =
-    subst (λ (ns : List (List ℕ)). All (λ (one : ℕ × Item). one.0 < length ns) (numbered_items ns sent)) (sym is.clients) (all_of_clients sent) in
+    subst (λ (ns : List (List ℕ)). All (λ (one : ℕ × Item). one.0 < length ns) (numbered_items ns sent))
+    (sym is.clients) (all_of_clients sent) in
     subst (λ (xs : List (ℕ × Item)). All (λ (one : ℕ × Item). one.0 < length names) xs) (sym is.sent) all

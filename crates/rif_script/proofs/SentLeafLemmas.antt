@@ -1,18 +1,28 @@
 -- The leaves that are left, behind different fronts.
-use Rattle.std.proofs.Common.{◌≡◌, ◌∙◌, sym, ap, refl, ℕ, suc, ◌<◌, ◌+◌, ◌-◌, ◌≤◌, ◌==◌, Bool, true, false, List, [], ◌∷◌, drop, get_or, length, length-drop, arith, Option, Some, None}
+use Rattle.std.proofs.Common.{◌≡◌, ◌∙◌, sym, ap, refl, ℕ, suc, ◌<◌, ◌+◌, ◌-◌, ◌≤◌, ◌==◌, Bool, true, false, List, []}
+use Rattle.std.proofs.Common.{◌∷◌, drop, get_or, length, length-drop, arith, Option, Some, None}
 use Rattle.std.specs.Prelude.{map}
 use Rattle.std.proofs.Math.Seq.{drop-cons}
 use Rattle.rif_terms.specs.declared.constant.Const.{Const}
 use Rattle.rif_lex.specs.declared.token.Kind.{Kind}
-use Rattle.rif_lex.specs.declared.token.Kind.TheVariants.{Word, Curie, Local, Var, Int, Str, Iri, Open, Close, OpenSquare, CloseSquare, Equal, Hash, HashHash, Arrow, Carets}
+use Rattle.rif_lex.specs.declared.token.Kind.TheVariants.{Word, Curie, Local, Var, Int, Str, Iri, Open, Close}
+use Rattle.rif_lex.specs.declared.token.Kind.TheVariants.{OpenSquare, CloseSquare, Equal, Hash, HashHash, Arrow, Carets}
 use Rattle.rif_lex.specs.declared.token.Token.{Token}
 use Rattle.rif_lex.specs.Spelling.{Written, written}
 use Rattle.prd_reader.specs.declared.leaf.Keyword.TheVariants.{Prefix, External, True, False}
 use Rattle.prd_reader.specs.declared.leaf.Leaf.{Leaf}
-use Rattle.prd_reader.specs.declared.leaf.Leaf.TheVariants.{Key, LeftOut, Word as WordLeaf, Int as IntLeaf, Str as StrLeaf, Typed, Misspelled, TypeName, Iri as IriLeaf, Curie as CurieLeaf, Builtin, Local as LocalLeaf, Var as VarLeaf, Open as OpenLeaf, Close as CloseLeaf, OpenSquare as OpenSquareLeaf, CloseSquare as CloseSquareLeaf, Equal as EqualLeaf, Hash as HashLeaf, Arrow as ArrowLeaf, Carets as CaretsLeaf}
-use Rattle.prd_reader.specs.Leaves.{is_behind_carets, is_behind_external, is_behind_prefix, leaf_of, leaves_from, prefixes_with}
+use Rattle.prd_reader.specs.declared.leaf.Leaf.TheVariants.{Key, LeftOut, Word as WordLeaf, Int as IntLeaf}
+use Rattle.prd_reader.specs.declared.leaf.Leaf.TheVariants.{Str as StrLeaf, Typed, Misspelled, TypeName, Iri as IriLeaf}
+use Rattle.prd_reader.specs.declared.leaf.Leaf.TheVariants.{Curie as CurieLeaf, Builtin, Local as LocalLeaf}
+use Rattle.prd_reader.specs.declared.leaf.Leaf.TheVariants.{Var as VarLeaf, Open as OpenLeaf, Close as CloseLeaf}
+use Rattle.prd_reader.specs.declared.leaf.Leaf.TheVariants.{OpenSquare as OpenSquareLeaf}
+use Rattle.prd_reader.specs.declared.leaf.Leaf.TheVariants.{CloseSquare as CloseSquareLeaf, Equal as EqualLeaf}
+use Rattle.prd_reader.specs.declared.leaf.Leaf.TheVariants.{Hash as HashLeaf, Arrow as ArrowLeaf, Carets as CaretsLeaf}
+use Rattle.prd_reader.specs.Leaves.{is_behind_carets, is_behind_external, is_behind_prefix, leaf_of, leaves_from}
+use Rattle.prd_reader.specs.Leaves.{prefixes_with}
 use Rattle.prd_reader.specs.Prefixes.{Prefixes}
-use Rattle.rif_script.specs.ReadingItems.{const_behind, fact_behind, is_carets, is_known_type, past_arrow, past_close_square, past_name}
+use Rattle.rif_script.specs.ReadingItems.{const_behind, fact_behind, is_carets, is_known_type, past_arrow}
+use Rattle.rif_script.specs.ReadingItems.{past_close_square, past_name}
 use Rattle.rif_script.specs.SentLeaves.{is_calm}
 
 -- two fronts behind which the same leaves come
@@ -177,7 +187,8 @@ next_leaf p f bytes tokens at d l low is =
     let one : drop at tokens ≡ get_or tokens at d ∷ drop (at + 1) tokens =
     drop-cons tokens at d low ∙ ap (λ (n : ℕ). get_or tokens at d ∷ drop n tokens) more in
     ap (λ (ts : List Token). leaves_from p f (map (written bytes) ts)) one
-    ∙ ap (λ (m : Leaf). m ∷ leaves_from (prefixes_with p f m) (m ∷ f) (map (written bytes) (drop (at + 1) tokens))) (sym is)
+    ∙ ap (λ (m : Leaf). m ∷ leaves_from (prefixes_with p f m) (m ∷ f) (map (written bytes) (drop (at + 1) tokens)))
+    (sym is)
 
 -- the leaves behind a front where a token is left
 pub type_next : (p : Prefixes) (l : Leaf) (ws : List Written) → is_known_type l ≡ true →
@@ -190,7 +201,8 @@ carets_are CaretsLeaf is = refl
 carets_are _ is = absurd (cc)
 
 pub name_passed : (p q : Prefixes) (ls : List Leaf) (l : Leaf) (ws : List Written) →
-    ls ≡ l ∷ leaves_from (prefixes_with p (CaretsLeaf ∷ []) l) (l ∷ CaretsLeaf ∷ []) ws → q ≡ p → is_known_type l ≡ true →
+    ls ≡ l ∷ leaves_from (prefixes_with p (CaretsLeaf ∷ []) l) (l ∷ CaretsLeaf ∷ []) ws → q ≡ p →
+    is_known_type l ≡ true →
     past_name ls ≡ Some (leaves_from q [] ws)
 name_passed p q ls l ws is same known =
     let step : past_name (l ∷ leaves_from (prefixes_with p (CaretsLeaf ∷ []) l) (l ∷ CaretsLeaf ∷ []) ws)

@@ -1,8 +1,10 @@
 -- The lines of a text, one after another.
-use Rattle.std.proofs.Common.{◌≡◌, ◌≢◌, ◌<◌, ◌-◌, length-drop, ◌∙◌, sym, ap, refl, ℕ, ◌+◌, ◌==◌, ◌≤◌, subst, arith, suc, Bool, true, false, cond, List, [], ◌∷◌, ◌++◌, append_assoc, take, drop, length}
+use Rattle.std.proofs.Common.{◌≡◌, ◌≢◌, ◌<◌, ◌-◌, length-drop, ◌∙◌, sym, ap, refl, ℕ, ◌+◌, ◌==◌, ◌≤◌, subst, arith, suc}
+use Rattle.std.proofs.Common.{Bool, true, false, cond, List, [], ◌∷◌, ◌++◌, append_assoc, take, drop, length}
 use Rattle.std.proofs.Math.Seq.{take-add}
 use Rattle.std.proofs.lemmas.List.{drop-drop, length-take, take_all}
-use Rattle.rif_script.specs.Jobs.{document_text, is_separator, joined_before, lines_before, lines_behind, lines_of, script_lines, with_byte}
+use Rattle.rif_script.specs.Jobs.{document_text, is_separator, joined_before, lines_before, lines_behind, lines_of}
+use Rattle.rif_script.specs.Jobs.{script_lines, with_byte}
 use Rattle.rif_script.specs.ReadingLines.{line_length}
 
 -- a text's lines from its first byte on, where the first line isn't that byte alone
@@ -74,9 +76,12 @@ pub count_so_far : (at n count : ℕ) (text : List ℕ) → n ≡ line_length (d
 count_so_far at n count text is some_ other before =
     let k = line_length (drop at text) in
     let more : lines_before (lines_of (drop at text)) ≡ suc (lines_before (lines_of (drop (at + k) text))) =
-    one_line_before (drop at text) some_ other ∙ ap (λ (xs : List ℕ). suc (lines_before (lines_of xs))) (drop-drop k at text) in
-    let all : lines_before (lines_of text) ≡ (count + 1) + lines_before (lines_of (drop (at + k) text)) = omega (arith, before, more) in
-    subst (λ (m : ℕ). lines_before (lines_of text) ≡ (count + 1) + lines_before (lines_of (drop (at + m) text))) (sym is) all
+    one_line_before (drop at text) some_ other
+    ∙ ap (λ (xs : List ℕ). suc (lines_before (lines_of xs))) (drop-drop k at text) in
+    let all : lines_before (lines_of text) ≡ (count + 1) + lines_before (lines_of (drop (at + k) text)) =
+    omega (arith, before, more) in
+    subst (λ (m : ℕ). lines_before (lines_of text) ≡ (count + 1) + lines_before (lines_of (drop (at + m) text)))
+    (sym is) all
 
 -- the same, for what is left of a text behind so many bytes
 pub document_so_far : (at n : ℕ) (text : List ℕ) → n ≡ line_length (drop at text) → drop at text ≢ [] →
@@ -86,7 +91,8 @@ pub document_so_far : (at n : ℕ) (text : List ℕ) → n ≡ line_length (drop
 document_so_far at n text is some_ other before =
     let k = line_length (drop at text) in
     let more : document_text (drop at text) ≡ take k (drop at text) ++ document_text (drop (at + k) text) =
-    document_goes_on (drop at text) some_ other ∙ ap (λ (xs : List ℕ). take k (drop at text) ++ document_text xs) (drop-drop k at text) in
+    document_goes_on (drop at text) some_ other
+    ∙ ap (λ (xs : List ℕ). take k (drop at text) ++ document_text xs) (drop-drop k at text) in
     let all : document_text text ≡ take (at + k) text ++ document_text (drop (at + k) text) =
     before ∙ (ap (λ (xs : List ℕ). take at text ++ xs) more
     ∙ (sym (append_assoc (take at text) (take k (drop at text)) (document_text (drop (at + k) text)))

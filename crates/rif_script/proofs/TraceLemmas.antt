@@ -9,14 +9,17 @@ use Rattle.std.proofs.lemmas.List.Sums.{sum_by-append}
 use Rattle.session_states.specs.declared.item.Item.{Item}
 use Rattle.session_states.specs.declared.item.Entry.{Entry}
 use Rattle.session_states.specs.declared.turn.Act.{Act}
-use Rattle.session_states.specs.declared.turn.Act.TheVariants.{Idle, Halted, Disposed, Fired, StoppedQuiet, StoppedLimit, Resting}
+use Rattle.session_states.specs.declared.turn.Act.TheVariants.{Idle, Halted, Disposed, Fired, StoppedQuiet}
+use Rattle.session_states.specs.declared.turn.Act.TheVariants.{StoppedLimit, Resting}
 use Rattle.session_states.specs.declared.turn.Turn.{Turn}
 use Rattle.rif_script.specs.declared.job.Job.{Job}
 use Rattle.session_states.specs.Clients.{items_of, ranks_of}
 use Rattle.rif_script.specs.CuttingLaws.{CountUp, joined, script_of}
 use Rattle.rif_script.specs.Lines.{entry_line, item_text, name_at}
-use Rattle.rif_script.specs.Trace.{act_text, act_word, effect_text, end_line, pick_text, run_text, turn_text, turns_text}
-use Rattle.rif_script.specs.TraceLaws.{AreKnown, AreTurns, FollowsScripts, HasClientNames, HasNoSpace, SameTextSameRun, turns_behind}
+use Rattle.rif_script.specs.Trace.{act_text, act_word, effect_text, end_line, pick_text, run_text, turn_text}
+use Rattle.rif_script.specs.Trace.{turns_text}
+use Rattle.rif_script.specs.TraceLaws.{AreKnown, AreTurns, FollowsScripts, HasClientNames, HasNoSpace, SameTextSameRun}
+use Rattle.rif_script.specs.TraceLaws.{turns_behind}
 
 -- how many of the entries are a client's
 abbrev count_of : ℕ → List Entry → ℕ
@@ -53,7 +56,8 @@ same_entry : (job : Job) (before : List Entry) (d e : Entry) (ds es : List Entry
     Continue job before (d ∷ ds) → Continue job before (e ∷ es) →
     line_rest job d r ≡ line_rest job e q → d ≡ e
 same_entry job before d e ds es r q j h k same =
-    let name = same_name (name_at job.names d.client) (name_at job.names e.client) _ _ (j.plain d.client h.0) (j.plain e.client k.0) same in
+    let name = same_name (name_at job.names d.client) (name_at job.names e.client) _ _ (j.plain d.client h.0)
+    (j.plain e.client k.0) same in
     let client : d.client ≡ e.client = j.distinct d.client e.client h.0 k.0 name in
     let counts : count_of d.client before ≡ count_of e.client before = ap (λ (c : ℕ). count_of c before) client in
     let rank : d.rank ≡ e.rank = cc in
@@ -87,8 +91,10 @@ same_lines word goes job before (x ∷ xs) (y ∷ ys) u v r q j g f f2 h k e =
     let a = append_assoc (line x) (flat_map line xs) r in
     let b = append_assoc (line y) (flat_map line ys) q in
     let whole : line x ++ (flat_map line xs ++ r) ≡ line y ++ (flat_map line ys ++ q) = sym a ∙ (e ∙ b) in
-    let spelled : word ++ 32 ∷ line_rest job x (flat_map line xs ++ r) ≡ word ++ 32 ∷ line_rest job y (flat_map line ys ++ q) =
-    sym (entry_line-rest word job x (flat_map line xs ++ r)) ∙ (whole ∙ entry_line-rest word job y (flat_map line ys ++ q)) in
+    let spelled : word ++ 32 ∷ line_rest job x (flat_map line xs ++ r) ≡
+    word ++ 32 ∷ line_rest job y (flat_map line ys ++ q) =
+    sym (entry_line-rest word job x (flat_map line xs ++ r))
+    ∙ (whole ∙ entry_line-rest word job y (flat_map line ys ++ q)) in
     let behind = append_cancel_left word _ _ spelled in
     let inner = append_cancel_left (32 ∷ []) _ _ behind in
     let entry : x ≡ y = same_entry job before x y (xs ++ u) (ys ++ v) _ _ j h k inner in
@@ -98,7 +104,8 @@ same_lines word goes job before (x ∷ xs) (y ∷ ys) u v r q j g f f2 h k e =
     let more = same_lines word goes job (before ++ x ∷ []) xs ys u v r q j g f f2 h.3 k2 rest in
     (cc, more.1)
 
-continue_later : (job : Job) (before b rest : List Entry) → Continue job before (b ++ rest) → Continue job (before ++ b) rest
+continue_later : (job : Job) (before b rest : List Entry) → Continue job before (b ++ rest) →
+    Continue job (before ++ b) rest
 continue_later job before [] rest h = subst (λ (x : List Entry). Continue job x rest) (sym (append-nil before)) h
 continue_later job before (e ∷ b) rest h =
     subst (λ (x : List Entry). Continue job x rest) (append_assoc before (e ∷ []) b)
@@ -130,7 +137,8 @@ shown_otherwise (Some Resting) pick line effect rest h = refl
 
 -- the text from a turn on
 abbrev text_from : Job → ℕ → List Turn → List Entry → List ℕ → List ℕ
-text_from job k turns left ending = turns_text job k turns ++ (flat_map (entry_line (codes "left") job.names) left ++ 101 ∷ ending)
+text_from job k turns left ending =
+    turns_text job k turns ++ (flat_map (entry_line (codes "left") job.names) left ++ 101 ∷ ending)
 
 abbrev turn_line : ℕ → List ℕ
 turn_line k = codes "turn " ++ decimal k ++ codes "\n"
@@ -138,14 +146,17 @@ turn_line k = codes "turn " ++ decimal k ++ codes "\n"
 text_from-cons : (job : Job) (k : ℕ) (turn : Turn) (turns : List Turn) (batch left : List Entry) (ending : List ℕ) →
     turn.batch ≡ batch →
     text_from job k (turn ∷ turns) left ending
-    ≡ turn_line k ++ (flat_map (entry_line (codes "in") job.names) batch ++ (act_text job.doc turn ++ text_from job (suc k) turns left ending))
+    ≡ turn_line k ++
+    (flat_map (entry_line (codes "in") job.names) batch ++
+    (act_text job.doc turn ++ text_from job (suc k) turns left ending))
 text_from-cons job k turn turns batch left ending takes =
     let lines = flat_map (entry_line (codes "in") job.names) in
     let more = flat_map (entry_line (codes "left") job.names) left ++ 101 ∷ ending in
     append_assoc (turn_text job k turn) (turns_text job (suc k) turns) more
     ∙ append_assoc (turn_line k ++ lines turn.batch) (act_text job.doc turn) (text_from job (suc k) turns left ending)
     ∙ append_assoc (turn_line k) (lines turn.batch) (act_text job.doc turn ++ text_from job (suc k) turns left ending)
-    ∙ ap (λ (b : List Entry). turn_line k ++ (lines b ++ (act_text job.doc turn ++ text_from job (suc k) turns left ending))) takes
+    ∙ ap (λ (b : List Entry). turn_line k ++
+    (lines b ++ (act_text job.doc turn ++ text_from job (suc k) turns left ending))) takes
 
 same_from : (job : Job) (turn_of : List (List Entry) → List Entry → Turn) (k : ℕ) (done : List (List Entry))
     (before : List Entry) (bs cs : List (List Entry)) (left right : List Entry)
@@ -184,7 +195,8 @@ same_from job turn_of k done before (b ∷ bs) (c ∷ cs) left right r q j a h k
     let batch : b ≡ c = split.0 in
     let acts : act_text job.doc turn ++ text_from job (suc k) turns left r
     ≡ act_text job.doc turn ++ text_from job (suc k) (turns_behind turn_of (done ++ b ∷ []) cs) right q =
-    split.1 ∙ ap (λ (x : List Entry). act_text job.doc (turn_of done x) ++ text_from job (suc k) (turns_behind turn_of (done ++ x ∷ []) cs) right q) (sym batch) in
+    split.1 ∙ ap (λ (x : List Entry). act_text job.doc (turn_of done x) ++
+    text_from job (suc k) (turns_behind turn_of (done ++ x ∷ []) cs) right q) (sym batch) in
     let rest = append_cancel_left (act_text job.doc turn) _ _ acts in
     let h2 = continue_later job before b (joined bs left) h in
     let k2 = continue_later job before b (joined cs right)
@@ -210,7 +222,8 @@ count_of-other : (c : ℕ) (before : List Entry) (e : Entry) → e.client == c �
     count_of c (before ++ e ∷ []) ≡ count_of c before
 count_of-other c before e other =
     let parts = sum_by-append (λ (x : Entry). cond (x.client == c) 1 0) before (e ∷ []) in
-    let none : sum_by (λ (x : Entry). cond (x.client == c) 1 0) (e ∷ []) ≡ 0 = ap (λ (b : Bool). 0 + cond b 1 0) other in
+    let none : sum_by (λ (x : Entry). cond (x.client == c) 1 0) (e ∷ []) ≡ 0 =
+    ap (λ (b : Bool). 0 + cond b 1 0) other in
     omega (arith, parts, none)
 
 -- the entries go on where the scripts are behind those before
@@ -220,7 +233,8 @@ record GoesOn (job : Job) (before es : List Entry) : Type 0 where
   ranks : (c : ℕ) → CountUp (count_of c before) (ranks_of c es)
 
 -- the client's items from its next one on, where an entry is its own
-own_items : (job : Job) (before es : List Entry) (e : Entry) (c : ℕ) → e.client == c ≡ true → (g : GoesOn job before (e ∷ es)) →
+own_items : (job : Job) (before es : List Entry) (e : Entry) (c : ℕ) → e.client == c ≡ true →
+    (g : GoesOn job before (e ∷ es)) →
     e.item ∷ (items_of c es ++ (g.items c).0) ≡ drop (count_of c before) (script_of c job.items)
 own_items job before es e c own g = ap (λ (b : Bool). cond b (e.item ∷ items_of c es) (items_of c es) ++ (g.items c).0)
     (sym own) ∙ (g.items c).1
@@ -242,10 +256,12 @@ later_ranks : (job : Job) (before es : List Entry) (e : Entry) (c : ℕ) (is : B
     GoesOn job before (e ∷ es) →
     CountUp (count_of c (before ++ e ∷ [])) (ranks_of c es)
 later_ranks job before es e c true own g =
-    let r = subst (λ (b : Bool). CountUp (count_of c before) (cond b (e.rank ∷ ranks_of c es) (ranks_of c es))) own (g.ranks c) in
+    let r = subst (λ (b : Bool). CountUp (count_of c before) (cond b (e.rank ∷ ranks_of c es) (ranks_of c es)))
+    own (g.ranks c) in
     subst (λ (k : ℕ). CountUp k (ranks_of c es)) (sym (count_of-own c before e own)) r.1
 later_ranks job before es e c false other g =
-    let r = subst (λ (b : Bool). CountUp (count_of c before) (cond b (e.rank ∷ ranks_of c es) (ranks_of c es))) other (g.ranks c) in
+    let r = subst (λ (b : Bool). CountUp (count_of c before) (cond b (e.rank ∷ ranks_of c es) (ranks_of c es)))
+    other (g.ranks c) in
     subst (λ (k : ℕ). CountUp k (ranks_of c es)) (sym (count_of-other c before e other)) r
 
 its_own : (e : Entry) → e.client == e.client ≡ true
@@ -257,13 +273,18 @@ goes_on job before (e ∷ es) g =
     let c = e.client in
     let at = first_of_drop (count_of c before) (script_of c job.items) e.item (items_of c es ++ (g.items c).0)
     (own_items job before es e c (its_own e) g) in
-    let r = subst (λ (b : Bool). CountUp (count_of c before) (cond b (e.rank ∷ ranks_of c es) (ranks_of c es))) (its_own e) (g.ranks c) in
+    let r = subst (λ (b : Bool). CountUp (count_of c before) (cond b (e.rank ∷ ranks_of c es) (ranks_of c es)))
+    (its_own e) (g.ranks c) in
     let rank : e.rank ≡ count_of c before = r.0 in (
       g.known.0,
       rank,
       subst (λ (k : ℕ). slice_get (script_of c job.items) k ≡ Some e.item) (sym rank) at.0,
       goes_on job (before ++ e ∷ []) es
-          (record { known = g.known.1; items = λ d. later_items job before es e d (e.client == d) refl g; ranks = λ d. later_ranks job before es e d (e.client == d) refl g }),
+          (record {
+            known = g.known.1;
+            items = λ d. later_items job before es e d (e.client == d) refl g;
+            ranks = λ d. later_ranks job before es e d (e.client == d) refl g;
+          }),
     )
 
 scripts_go_on : (job : Job) (es : List Entry) → FollowsScripts job es → Continue job [] es

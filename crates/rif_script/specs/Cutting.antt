@@ -3,7 +3,8 @@
 --     batches_of_entries es       the batches of a script's entries
 --     left_of_entries es          the entries behind the first Dispose
 -- Source: the project's own (docs/PROFILE.md, "Replay").
-use Rattle.std.specs.Prelude.{suc, ◌<◌, ◌+◌, ◌==◌, ◌||◌, ℕ, Bool, true, false, List, [], ◌∷◌, ◌++◌, All, count_by, drop, if◌then◌else◌, length, take}
+use Rattle.std.specs.Prelude.{suc, ◌<◌, ◌+◌, ◌==◌, ◌||◌, ℕ, Bool, true, false, List, [], ◌∷◌, ◌++◌, All, count_by, drop}
+use Rattle.std.specs.Prelude.{if◌then◌else◌, length, take}
 use Rattle.rif_terms.specs.declared.limits.TheConstants.{MOST_BATCH_ITEMS}
 use Rattle.session_states.specs.declared.item.Item.{Item}
 use Rattle.session_states.specs.declared.item.Item.TheVariants.{Change, Fire, Until, Halt, Dispose}
@@ -25,7 +26,8 @@ sent_count client items = count_by (λ sent. sent.0 == client) items
 abbrev pub entries_after : List (ℕ × Item) → List (ℕ × Item) → List Entry
 entries_after before [] = []
 entries_after before (sent ∷ items) =
-    record { client = sent.0; rank = sent_count sent.0 before; item = sent.1 } ∷ entries_after (before ++ sent ∷ []) items
+    record { client = sent.0; rank = sent_count sent.0 before; item = sent.1 } ∷
+    entries_after (before ++ sent ∷ []) items
 
 abbrev pub script_entries : Job → List Entry
 script_entries job = entries_after [] job.items

@@ -5,7 +5,8 @@
 --     CutEndsBatches            a control item ends its batch, and a batch before the last ends in one or is full
 --     EntriesFollowScripts      a client's entries are its items with the ranks 0, 1, 2 and so on
 -- Source: the project's own (docs/PROFILE.md, "Replay").
-use Rattle.std.specs.Prelude.{suc, ◌≡◌, ◌≢◌, ◌==◌, ◌||◌, ℕ, true, false, Bool, List, [], ◌∷◌, ◌++◌, if◌then◌else◌, length}
+use Rattle.std.specs.Prelude.{suc, ◌≡◌, ◌≢◌, ◌==◌, ◌||◌, ℕ, true, false, Bool, List, [], ◌∷◌, ◌++◌, if◌then◌else◌}
+use Rattle.std.specs.Prelude.{length}
 use Rattle.rif_terms.specs.declared.limits.TheConstants.{MOST_BATCH_ITEMS}
 use Rattle.session_states.specs.declared.item.Item.{Item}
 use Rattle.session_states.specs.declared.item.Entry.{Entry}
@@ -31,7 +32,8 @@ last_passes test (entry ∷ next ∷ entries) = last_passes test (next ∷ entri
 abbrev pub AreCutLawfully : List (List Entry) → Type 0
 AreCutLawfully [] = Unit {0}
 AreCutLawfully (batch ∷ []) = IsLawful batch × (batch ≢ [])
-AreCutLawfully (batch ∷ next ∷ batches) = IsLawful batch × (batch ≢ []) × (last_passes is_dispose batch ≡ false) × AreCutLawfully (next ∷ batches)
+AreCutLawfully (batch ∷ next ∷ batches) =
+    IsLawful batch × (batch ≢ []) × (last_passes is_dispose batch ≡ false) × AreCutLawfully (next ∷ batches)
 
 abbrev pub CutIsLawful : Type 0
 CutIsLawful = (entries : List Entry) → AreCutLawfully (batches_of_entries entries)
@@ -47,7 +49,8 @@ abbrev pub AreEnded : List (List Entry) → Type 0
 AreEnded [] = Unit {0}
 AreEnded (batch ∷ []) = ControlsLast batch
 AreEnded (batch ∷ next ∷ batches) =
-    ControlsLast batch × ((last_passes is_control batch || length batch == MOST_BATCH_ITEMS) ≡ true) × AreEnded (next ∷ batches)
+    ControlsLast batch × ((last_passes is_control batch || length batch == MOST_BATCH_ITEMS) ≡ true) ×
+    AreEnded (next ∷ batches)
 
 abbrev pub CutEndsBatches : Type 0
 CutEndsBatches = (entries : List Entry) → AreEnded (batches_of_entries entries)
@@ -65,4 +68,5 @@ CountUp n (m ∷ ms) = (m ≡ n) × CountUp (suc n) ms
 abbrev pub EntriesFollowScripts : Type 0
 EntriesFollowScripts =
     (items : List (ℕ × Item)) (client : ℕ) →
-    (items_of client (entries_after [] items) ≡ script_of client items) × CountUp 0 (ranks_of client (entries_after [] items))
+    (items_of client (entries_after [] items) ≡ script_of client items) ×
+    CountUp 0 (ranks_of client (entries_after [] items))

@@ -1,6 +1,7 @@
 -- The sources and sinks in memory: what each call on them answers, and what they are then.
 -- Source: the project's own (docs/FORMATS.md, "Sources and sinks").
-use Rattle.std.specs.Prelude.{ℕ, ◌+◌, ◌-◌, ◌^◌, ◌==◌, ◌||◌, ◌&&◌, min, Bool, false, nat_lt, List, ◌++◌, length, take, drop, Ok, Err, if◌then◌else◌}
+use Rattle.std.specs.Prelude.{ℕ, ◌+◌, ◌-◌, ◌^◌, ◌==◌, ◌||◌, ◌&&◌, min, Bool, false, nat_lt, List, ◌++◌, length, take}
+use Rattle.std.specs.Prelude.{drop, Ok, Err, if◌then◌else◌}
 use Rattle.std.specs.List.{list_any}
 use Rattle.std.specs.declared.result.Result.{Result}
 use Rattle.rif_script.specs.declared.failed.Failed.{Failed}

@@ -11,14 +11,18 @@
 --     IsRefused bytes refusal     an input has this refusal
 --     OneOutcome                  law: an input is one of these, and has one value of it
 -- Source: the project's own (docs/FORMATS.md, "Jobs" and "Refusals").
-use Rattle.std.specs.Prelude.{◌≡◌, ◌≤◌, ◌<◌, ◌⊎◌, ℕ, ◌+◌, ◌==◌, ◌||◌, ◌&&◌, nat_le, pos, suc, Bool, true, false, if◌then◌else◌, List, [], ◌∷◌, ◌++◌, Option, Some, None, Ok, Err, IsUtf8, codes, bytes_eq, length, map}
+use Rattle.std.specs.Prelude.{◌≡◌, ◌≤◌, ◌<◌, ◌⊎◌, ℕ, ◌+◌, ◌==◌, ◌||◌, ◌&&◌, nat_le, pos, suc, Bool, true, false}
+use Rattle.std.specs.Prelude.{if◌then◌else◌, List, [], ◌∷◌, ◌++◌, Option, Some, None, Ok, Err, IsUtf8, codes, bytes_eq}
+use Rattle.std.specs.Prelude.{length, map}
 use Rattle.std.specs.List.{list_all}
 use Rattle.std.specs.Str.{IsValidUpTo}
-use Rattle.rif_terms.specs.declared.limits.TheConstants.{MOST_INPUT_BYTES, MOST_CLIENTS, MOST_ITEMS, MOST_BUDGETS, MOST_NAME_CHARACTERS}
+use Rattle.rif_terms.specs.declared.limits.TheConstants.{MOST_INPUT_BYTES, MOST_CLIENTS, MOST_ITEMS, MOST_BUDGETS}
+use Rattle.rif_terms.specs.declared.limits.TheConstants.{MOST_NAME_CHARACTERS}
 use Rattle.rif_terms.specs.declared.change.Change.TheVariants.{Assert, Retract, RetractSlot, RetractObject, Modify}
 use Rattle.rif_terms.specs.declared.fact.Fact.TheVariants.{Frame}
 use Rattle.rif_terms.specs.declared.refusal.Refusal.{Refusal}
-use Rattle.rif_terms.specs.declared.refusal.Refusal.TheVariants.{InputTooLong, NotUtf8, BadLine, BudgetTooLarge, TooManyItems, TooManyClients}
+use Rattle.rif_terms.specs.declared.refusal.Refusal.TheVariants.{InputTooLong, NotUtf8, BadLine, BudgetTooLarge}
+use Rattle.rif_terms.specs.declared.refusal.Refusal.TheVariants.{TooManyItems, TooManyClients}
 use Rattle.rif_terms.specs.declared.fault.Fault.{Fault}
 use Rattle.rif_terms.specs.declared.fault.Fault.TheVariants.{Refused, OutOfMemory}
 use Rattle.rif_terms.specs.declared.rule.Doc.{Doc}
@@ -181,7 +185,8 @@ pub record IsWithinLimits (sent : List (List ℕ × Item)) : Type 0 where
   pub few_clients : length (names_of sent) ≤ MOST_CLIENTS
 
 -- the lines are a script of these clients, in the order of their numbers, with these items, within the limits
-pub record IsScript (prefixes : Prefixes) (lines : List (List ℕ)) (names : List (List ℕ)) (items : List (ℕ × Item)) : Type 0 where
+pub record IsScript (prefixes : Prefixes) (lines : List (List ℕ)) (names : List (List ℕ))
+    (items : List (ℕ × Item)) : Type 0 where
   pub given : List (Option (List ℕ × Item))
   pub lines_are : AreLines prefixes lines given
   pub clients : names ≡ names_of (sent_by given)

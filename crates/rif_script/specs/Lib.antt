@@ -13,6 +13,5 @@ pub mod SentLeaves
 pub mod SentLines
 pub mod Simple
 pub mod Standard
-pub mod TokensOf
 pub mod Trace
 pub mod TraceLaws

@@ -3,9 +3,11 @@
 --     fact_from ls        the fact that all the leaves are
 --     item_from text ls   the item of a word, with the leaves behind it
 --     sent_from           a client's name and its item, which all tokens of a line are
-use Rattle.std.specs.Prelude.{ℕ, ℤ, pos, negsuc, zero, suc, ◌&&◌, Bool, true, false, if◌then◌else◌, List, [], ◌∷◌, ◌++◌, Option, Some, None, codes, bytes_eq, drop, length}
+use Rattle.std.specs.Prelude.{ℕ, ℤ, pos, negsuc, zero, suc, ◌&&◌, Bool, true, false, if◌then◌else◌, List, [], ◌∷◌, ◌++◌}
+use Rattle.std.specs.Prelude.{Option, Some, None, codes, bytes_eq, drop, length}
 use Rattle.rif_terms.specs.declared.constant.Const.{Const}
-use Rattle.rif_terms.specs.declared.constant.Const.TheVariants.{Int as IntConst, Bool as BoolConst, Str as StrConst, Iri as IriConst, Local as LocalConst, Fresh}
+use Rattle.rif_terms.specs.declared.constant.Const.TheVariants.{Int as IntConst, Bool as BoolConst, Str as StrConst}
+use Rattle.rif_terms.specs.declared.constant.Const.TheVariants.{Iri as IriConst, Local as LocalConst, Fresh}
 use Rattle.rif_terms.specs.declared.change.Change.{Change}
 use Rattle.rif_terms.specs.declared.change.Change.TheVariants.{Assert, Retract, RetractSlot, RetractObject, Modify}
 use Rattle.rif_terms.specs.declared.fact.Fact.{Fact}
@@ -16,9 +18,11 @@ use Rattle.rif_lex.specs.Spelling.{Written}
 use Rattle.prd_reader.specs.declared.leaf.Keyword.{Keyword}
 use Rattle.prd_reader.specs.declared.leaf.Keyword.TheVariants.{True, False}
 use Rattle.prd_reader.specs.declared.leaf.Literal.{Literal}
-use Rattle.prd_reader.specs.declared.leaf.Literal.TheVariants.{Integer, Boolean, String, Iri as IriLiteral, Local as LocalLiteral, OfNoType}
+use Rattle.prd_reader.specs.declared.leaf.Literal.TheVariants.{Integer, Boolean, String, Iri as IriLiteral}
+use Rattle.prd_reader.specs.declared.leaf.Literal.TheVariants.{Local as LocalLiteral, OfNoType}
 use Rattle.prd_reader.specs.declared.leaf.Leaf.{Leaf}
-use Rattle.prd_reader.specs.declared.leaf.Leaf.TheVariants.{Key, Int, Str, Typed, TypeName, Iri, Curie, Local, Open, Close, OpenSquare, CloseSquare, Hash, Arrow, Carets}
+use Rattle.prd_reader.specs.declared.leaf.Leaf.TheVariants.{Key, Int, Str, Typed, TypeName, Iri, Curie, Local, Open}
+use Rattle.prd_reader.specs.declared.leaf.Leaf.TheVariants.{Close, OpenSquare, CloseSquare, Hash, Arrow, Carets}
 use Rattle.prd_reader.specs.Prefixes.{Prefixes}
 use Rattle.session_states.specs.declared.item.Item.{Item}
 use Rattle.session_states.specs.declared.item.Item.TheVariants.{Change as Changing, Fire, Until, Halt, Dispose}

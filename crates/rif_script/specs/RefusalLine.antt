@@ -5,7 +5,11 @@ use Rattle.rif_terms.specs.Refusals.{refusal_number}
 use Rattle.rif_terms.specs.declared.refusal.Counted.{Counted}
 use Rattle.rif_terms.specs.declared.refusal.Counted.TheVariants.{Rules, Variables, Patterns, Actions}
 use Rattle.rif_terms.specs.declared.refusal.Refusal.{Refusal}
-use Rattle.rif_terms.specs.declared.refusal.Refusal.TheVariants.{InputTooLong, NotUtf8, BadToken, Expected, TooDeep, IntRange, UnknownPrefix, LeftOut, UnknownBuiltin, Arity, BadStrategy, PriorityRange, TooMany, Undeclared, DeclaredTwice, Unsafe, BadLine, BudgetTooLarge, TooManyItems, TooManyClients, TooManyBranches}
+use Rattle.rif_terms.specs.declared.refusal.Refusal.TheVariants.{InputTooLong, NotUtf8, BadToken, Expected, TooDeep}
+use Rattle.rif_terms.specs.declared.refusal.Refusal.TheVariants.{IntRange, UnknownPrefix, LeftOut, UnknownBuiltin}
+use Rattle.rif_terms.specs.declared.refusal.Refusal.TheVariants.{Arity, BadStrategy, PriorityRange, TooMany, Undeclared}
+use Rattle.rif_terms.specs.declared.refusal.Refusal.TheVariants.{DeclaredTwice, Unsafe, BadLine, BudgetTooLarge}
+use Rattle.rif_terms.specs.declared.refusal.Refusal.TheVariants.{TooManyItems, TooManyClients, TooManyBranches}
 
 -- what there are too many of
 abbrev pub counted_word : Counted → List ℕ

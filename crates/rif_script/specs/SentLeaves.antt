@@ -2,7 +2,8 @@
 --     seen t              the leaves of the tokens that are left
 --     leaves_past ls t    the same, straight behind these leaves, of which the newest stands first
 --     Gives               what a call answers, as a view shows it, or that it answers nothing
-use Rattle.std.specs.Prelude.{◌≡◌, ◌+◌, Bool, true, false, List, [], ◌∷◌, drop, map, Option, Some, None, Ok, Err, length, ℕ}
+use Rattle.std.specs.Prelude.{◌≡◌, ◌+◌, Bool, true, false, List, [], ◌∷◌, drop, map, Option, Some, None, Ok, Err}
+use Rattle.std.specs.Prelude.{length, ℕ}
 use Rattle.std.specs.declared.result.Result.{Result}
 use Rattle.rif_lex.specs.Spelling.{Written, written}
 use Rattle.prd_reader.specs.declared.leaf.Keyword.{Keyword}
@@ -34,7 +35,8 @@ leaves_past front t = leaves_from t.prefixes.now front (texts_left t)
 -- what was read straight behind a front: a leaf, and what is left behind it
 abbrev pub IsNext : SentTokens → List Leaf → Leaf × SentTokens → Type 0
 IsNext t front read =
-    (leaves_past front t ≡ read.0 ∷ leaves_from (prefixes_with t.prefixes.now front read.0) (read.0 ∷ front) (texts_left read.1))
+    (leaves_past front t ≡
+    read.0 ∷ leaves_from (prefixes_with t.prefixes.now front read.0) (read.0 ∷ front) (texts_left read.1))
     × (read.1.prefixes.now ≡ t.prefixes.now)
 
 abbrev pub with_seen : {X : Type 0} → X × SentTokens → X × List Leaf

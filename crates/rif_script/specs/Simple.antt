@@ -1,21 +1,26 @@
 -- The jobs that a run can evaluate yet.
 --     is_simple_job job     whether the job is one of them
---     is_simple_rule rule   a rule without `such that`, declarations, built-ins, equality, `Or`, `Not` and `Exists`, whose
---                           actions assert and retract targets, and whose variables are each declared once, by
---                           `Forall`, and occur in a pattern of the condition
+--     is_simple_rule rule   a rule without `such that`, declarations, built-ins, equality, `Or`, `Not` and `Exists`,
+--                           whose actions assert and retract targets, and whose variables are each declared once,
+--                           by `Forall`, and occur in a pattern of the condition
 --     is_simple_item item   an item that asserts or retracts a fact, or fires
--- Source: the project's own (docs/FORMATS.md, "Simple jobs").
+-- Source: the project's own (docs/FORMATS.md, "What `run` evaluates").
 use Rattle.std.specs.Prelude.{ℕ, ◌==◌, ◌&&◌, ◌||◌, not, Bool, true, false, List, [], ◌∷◌, ◌++◌, Option, Some, None}
 use Rattle.std.specs.List.{flat_map, list_all, list_any}
 use Rattle.rif_terms.specs.declared.change.Change.TheVariants.{Assert, Retract, RetractSlot, RetractObject, Modify}
 use Rattle.rif_terms.specs.declared.rule.Action.{Action}
-use Rattle.rif_terms.specs.declared.rule.Action.TheVariants.{Assert as AssertAction, Retract as RetractAction, RetractSlot as RetractSlotAction, RetractObject as RetractObjectAction, Modify as ModifyAction}
+use Rattle.rif_terms.specs.declared.rule.Action.TheVariants.{Assert as AssertAction, Retract as RetractAction}
+use Rattle.rif_terms.specs.declared.rule.Action.TheVariants.{RetractSlot as RetractSlotAction}
+use Rattle.rif_terms.specs.declared.rule.Action.TheVariants.{RetractObject as RetractObjectAction}
+use Rattle.rif_terms.specs.declared.rule.Action.TheVariants.{Modify as ModifyAction}
 use Rattle.rif_terms.specs.declared.rule.Decl.{Decl}
 use Rattle.rif_terms.specs.declared.rule.Rule.{Rule}
 use Rattle.rif_terms.specs.declared.rule.Target.{Target}
-use Rattle.rif_terms.specs.declared.rule.Target.TheVariants.{Atom as AtomTarget, Frame as FrameTarget, Member as MemberTarget}
+use Rattle.rif_terms.specs.declared.rule.Target.TheVariants.{Atom as AtomTarget, Frame as FrameTarget}
+use Rattle.rif_terms.specs.declared.rule.Target.TheVariants.{Member as MemberTarget}
 use Rattle.rif_terms.specs.declared.tree.Formula.{Formula}
-use Rattle.rif_terms.specs.declared.tree.Formula.TheOpen.{Formula-F, And, Or, Not, Exists, Equal, Member, Frame, Atom, Holds}
+use Rattle.rif_terms.specs.declared.tree.Formula.TheOpen.{Formula-F, And, Or, Not, Exists, Equal, Member, Frame, Atom}
+use Rattle.rif_terms.specs.declared.tree.Formula.TheOpen.{Holds}
 use Rattle.rif_terms.specs.declared.tree.Formula.TheFolds.{fold-Formula}
 use Rattle.rif_terms.specs.declared.tree.Level.{Level}
 use Rattle.rif_terms.specs.declared.tree.Term.{Term}

@@ -16,7 +16,8 @@ use Rattle.rif_terms.specs.Bindings.{value_at}
 use Rattle.rif_terms.specs.Writing.{const_text, fact_text}
 use Rattle.session_states.specs.declared.item.Entry.{Entry}
 use Rattle.session_states.specs.declared.turn.Act.{Act}
-use Rattle.session_states.specs.declared.turn.Act.TheVariants.{Idle, Halted, Disposed, Fired, StoppedQuiet, StoppedLimit, Resting}
+use Rattle.session_states.specs.declared.turn.Act.TheVariants.{Idle, Halted, Disposed, Fired, StoppedQuiet}
+use Rattle.session_states.specs.declared.turn.Act.TheVariants.{StoppedLimit, Resting}
 use Rattle.session_states.specs.declared.turn.Effect.{Effect}
 use Rattle.session_states.specs.declared.turn.Effect.TheVariants.{None as Unchanged, Void, Net}
 use Rattle.session_states.specs.declared.turn.Turn.{Turn}
@@ -66,7 +67,8 @@ fact_line sign fact = sign ++ fact_text fact ++ codes "\n"
 abbrev pub effect_text : Effect → List ℕ
 effect_text Unchanged = []
 effect_text Void = codes "void\n"
-effect_text (Net delta) = flat_map (fact_line (codes "- ")) delta.removed ++ flat_map (fact_line (codes "+ ")) delta.added
+effect_text (Net delta) =
+    flat_map (fact_line (codes "- ")) delta.removed ++ flat_map (fact_line (codes "+ ")) delta.added
 
 -- what a turn's act, pick and effect show
 abbrev pub act_text : Doc → Turn → List ℕ
@@ -74,7 +76,8 @@ act_text doc turn = act_word turn.act ++ pick_text doc turn.pick ++ codes "\n" +
 
 abbrev pub turn_text : Job → ℕ → Turn → List ℕ
 turn_text job k turn =
-    (codes "turn " ++ decimal k ++ codes "\n") ++ flat_map (entry_line (codes "in") job.names) turn.batch ++ act_text job.doc turn
+    (codes "turn " ++ decimal k ++ codes "\n") ++ flat_map (entry_line (codes "in") job.names) turn.batch ++
+    act_text job.doc turn
 
 abbrev pub turns_text : Job → ℕ → List Turn → List ℕ
 turns_text job k [] = []
@@ -94,4 +97,5 @@ end_line turns facts =
     (firing_count turns) ++ codes " facts " ++ decimal facts ++ codes "\n"
 
 abbrev pub run_text : Job → List Turn → List Entry → ℕ → List ℕ
-run_text job turns left facts = turns_text job 1 turns ++ flat_map (entry_line (codes "left") job.names) left ++ end_line turns facts
+run_text job turns left facts =
+    turns_text job 1 turns ++ flat_map (entry_line (codes "left") job.names) left ++ end_line turns facts

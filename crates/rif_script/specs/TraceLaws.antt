@@ -1,7 +1,8 @@
 -- What the text of a run determines.
 --     turns_behind turn_of before bs     turns of batches, each a function of the batches up to it
 --     FollowsScripts job es              each client's entries are the first items of its script, in order
---     SameTextSameRun                    two runs of a job with the same text have the same batches and the same entries left
+--     SameTextSameRun                    two runs of a job with the same text have the same batches and the same
+--                                        entries left
 -- Source: the project's own (docs/FORMATS.md, "The trace").
 use Rattle.std.specs.Prelude.{◌≡◌, ◌≢◌, ◌<◌, ℕ, List, [], ◌∷◌, ◌++◌, IsSome, length}
 use Rattle.session_states.specs.declared.item.Item.{Item}
@@ -20,7 +21,8 @@ HasNoSpace (b ∷ bs) = (b ≢ 32) × HasNoSpace bs
 -- the clients' names have no space, and differ
 pub record HasClientNames (job : Job) : Type 0 where
   pub plain : (i : ℕ) → i < length job.names → HasNoSpace (name_at job.names i)
-  pub distinct : (i j : ℕ) → i < length job.names → j < length job.names → name_at job.names i ≡ name_at job.names j → i ≡ j
+  pub distinct : (i j : ℕ) → i < length job.names → j < length job.names → name_at job.names i ≡ name_at job.names j →
+      i ≡ j
 
 -- the entries are of the job's clients
 abbrev pub AreKnown : Job → List Entry → Type 0
@@ -36,7 +38,8 @@ pub record FollowsScripts (job : Job) (entries : List Entry) : Type 0 where
 -- the turns of batches that stand behind others
 abbrev pub turns_behind : (List (List Entry) → List Entry → Turn) → List (List Entry) → List (List Entry) → List Turn
 turns_behind turn_of before [] = []
-turns_behind turn_of before (batch ∷ batches) = turn_of before batch ∷ turns_behind turn_of (before ++ batch ∷ []) batches
+turns_behind turn_of before (batch ∷ batches) =
+    turn_of before batch ∷ turns_behind turn_of (before ++ batch ∷ []) batches
 
 -- each turn takes its batch, and has its act
 pub record AreTurns (turn_of : List (List Entry) → List Entry → Turn) : Type 0 where
@@ -45,7 +48,8 @@ pub record AreTurns (turn_of : List (List Entry) → List Entry → Turn) : Type
 
 abbrev pub SameTextSameRun : Type 0
 SameTextSameRun =
-    (job : Job) (turn_of : List (List Entry) → List Entry → Turn) (bs cs : List (List Entry)) (left right : List Entry) (m n : ℕ) →
+    (job : Job) (turn_of : List (List Entry) → List Entry → Turn) (bs cs : List (List Entry))
+    (left right : List Entry) (m n : ℕ) →
     HasClientNames job → AreTurns turn_of → FollowsScripts job (joined bs left) → FollowsScripts job (joined cs right) →
     run_text job (turns_behind turn_of [] bs) left m ≡ run_text job (turns_behind turn_of [] cs) right n →
     (bs ≡ cs) × (left ≡ right)

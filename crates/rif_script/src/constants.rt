@@ -1,6 +1,7 @@
 //! Constants as the lines of a script have them.
 ghost use Rattle.std.specs.Prelude.{◌≡◌, ◌∷◌, [], length};
-ghost use Rattle.rif_script.specs.ReadingItems.{begins_close, const_behind, const_from, consts_from, int_const, iri_const, literal_const, truth_const};
+ghost use Rattle.rif_script.specs.ReadingItems.{begins_close, const_behind, const_from, consts_from, int_const};
+ghost use Rattle.rif_script.specs.ReadingItems.{iri_const, literal_const, truth_const};
 ghost use Rattle.rif_script.specs.SentLeaves.{Gives, seen, with_seen};
 
 use crate::line_fault::LineFault;

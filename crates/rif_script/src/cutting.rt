@@ -1,7 +1,8 @@
 //! The batches of a job for one thread.
 ghost use Rattle.std.specs.Prelude.{◌≡◌, ◌≤◌, ◌<◌, All, IfOk, [], drop, length, take};
 ghost use Rattle.rif_terms.specs.declared.limits.TheConstants.{MOST_BATCH_ITEMS};
-ghost use Rattle.rif_script.specs.Cutting.{HasItsClients, script_entries, is_control, ends_behind, served_count, batches_behind, batches_of_entries, left_of_entries};
+ghost use Rattle.rif_script.specs.Cutting.{HasItsClients, script_entries, is_control, ends_behind, served_count};
+ghost use Rattle.rif_script.specs.Cutting.{batches_behind, batches_of_entries, left_of_entries};
 
 use crate::job::Job;
 use rif_terms::limits::MOST_BATCH_ITEMS;

@@ -1,6 +1,7 @@
 //! Facts as the lines of a script have them.
 ghost use Rattle.std.specs.Prelude.{◌≡◌};
-ghost use Rattle.rif_script.specs.ReadingItems.{atom_from, fact_behind, fact_from, fact_with, frame_from, is_name, member_from, past_arrow, past_close_square};
+ghost use Rattle.rif_script.specs.ReadingItems.{atom_from, fact_behind, fact_from, fact_with, frame_from, is_name};
+ghost use Rattle.rif_script.specs.ReadingItems.{member_from, past_arrow, past_close_square};
 ghost use Rattle.rif_script.specs.SentLeaves.{Gives, seen};
 
 use crate::constants::{read_const, read_consts};

@@ -1,6 +1,8 @@
 //! Items as the lines of a script have them.
 ghost use Rattle.std.specs.Prelude.{◌≡◌};
-ghost use Rattle.rif_script.specs.ReadingItems.{asserted_from, fact_retracted, item_from, is_fact_sign, modified_from, modify_of, number_from, number_of, retracted_from, retracted_with, slot_behind, whole};
+ghost use Rattle.rif_script.specs.ReadingItems.{asserted_from, fact_retracted, item_from, is_fact_sign, modified_from};
+ghost use Rattle.rif_script.specs.ReadingItems.{modify_of, number_from, number_of, retracted_from, retracted_with};
+ghost use Rattle.rif_script.specs.ReadingItems.{slot_behind, whole};
 ghost use Rattle.rif_script.specs.SentLeaves.{Gives, seen};
 
 use crate::constants::{const_behind, read_const};

@@ -5,14 +5,16 @@
 //! | `job.rt` | `Job`, a document and the items of its clients; `read_job` | `specs/Jobs.antt` |
 //! | `document_part.rt` | a job's document and its script, and the lines of a text | `specs/Jobs.antt` |
 //! | `script.rt`, `script_line.rt` | the clients and items of a script, and what a line of it is | `specs/Jobs.antt` |
-//! | `simple.rt`, `simple_rule.rt`, `simple_formula.rt` | `simple_job`, whether a job is one that a run can evaluate yet | `specs/Simple.antt` |
+//! | `simple.rt` | `simple_job`, whether a job is one that a run can evaluate yet | `specs/Simple.antt` |
+//! | `simple_rule.rt`, `simple_formula.rt` | the same of a rule and of a formula | `specs/Simple.antt` |
 //! | `items.rt`, `facts.rt`, `constants.rt` | what the tokens of a line are | `specs/Jobs.antt` |
 //! | `sent_tokens.rt`, `signs.rt` | the tokens that are left of a line | |
 //! | `cutting.rt` | `batches_of`, the batches of a job for one thread | `specs/Cutting.antt` |
 //! | `lines.rt` | the lines of items | `specs/Lines.antt` |
 //! | `trace.rt` | `write_run`, the text of a run: a trace line is made here | `specs/Trace.antt` |
 //! | `refusal_line.rt` | `write_refusal`, the line of a refused input | `specs/RefusalLine.antt` |
-//! | `laws.rt` | that an input has one outcome, what the cut keeps, and what a text determines | `specs/Jobs.antt`, `specs/CuttingLaws.antt`, `specs/TraceLaws.antt` |
+//! | `laws.rt` | that an input has one outcome | `specs/Jobs.antt` |
+//! | | what the cut keeps, and what a text determines | `specs/CuttingLaws.antt`, `specs/TraceLaws.antt` |
 //! | `source.rt`, `sink.rt` | `Source` and `Sink`, what gives bytes and what takes them | `specs/Faults.antt` |
 //! | `failed.rt` | `Failed`, a call that moved no byte | |
 //! | `memory_source.rt`, `memory_sink.rt` | `MemSource` and `MemSink`, the two in memory | `specs/InMemory.antt` |

@@ -111,7 +111,8 @@ fn read_sent<'a>(
     tokens: &[Token],
 ) -> Result<(&'a [u8], Item), LineFault>
     requires { lexed line.now ≡ Ok tokens.now }
-    ensures is { Gives (λ sent. (sent.0.now, sent.1)) result (sent_from prefixes.now (map (written line.now) tokens.now)) }
+    ensures is { Gives (λ sent. (sent.0.now, sent.1)) result
+        (sent_from prefixes.now (map (written line.now) tokens.now)) }
     ensures text { IfOk result (λ sent. IsUtf8 sent.0.now) }
 {
     if tokens.len() < 2 {

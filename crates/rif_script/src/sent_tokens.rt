@@ -65,7 +65,8 @@ impl<'a> SentTokens<'a> {
 
     /// The first leaf, and the tokens behind it.
     pub fn first(self, alloc: Global) -> Result<Option<(Leaf, SentTokens<'a>)>, OutOfMemory>
-        ensures { IfOk result (λ found. MatchOption found (seen self.entry ≡ []) (λ first. seen self.entry ≡ first.0 ∷ leaves_past (first.0 ∷ []) first.1)) }
+        ensures { IfOk result (λ found. MatchOption found (seen self.entry ≡ [])
+            (λ first. seen self.entry ≡ first.0 ∷ leaves_past (first.0 ∷ []) first.1)) }
     {
         if self.at == self.tokens.len() {
             return Ok(None);

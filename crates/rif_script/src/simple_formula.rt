@@ -1,7 +1,8 @@
 //! Formulas that are patterns of constants and declared variables, or conjunctions of such.
 ghost use Rattle.std.specs.Prelude.{◌≡◌, ◌==◌, map};
 ghost use Rattle.std.specs.List.{list_all, list_any};
-ghost use Rattle.rif_script.specs.Simple.{are_plain_pairs, are_plain_terms, declared_vars, has_var, is_in_pairs, is_in_patterns, is_plain_formula, is_plain_term, is_var};
+ghost use Rattle.rif_script.specs.Simple.{are_plain_pairs, are_plain_terms, declared_vars, has_var, is_in_pairs};
+ghost use Rattle.rif_script.specs.Simple.{is_in_patterns, is_plain_formula, is_plain_term, is_var};
 
 use rif_terms::{Formula, Level, Term};
 

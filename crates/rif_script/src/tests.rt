@@ -1,6 +1,11 @@
-//! Small runs with their whole text, and how scripts are cut.
+//! Jobs with what they are read as, small runs with their whole text, and how scripts are cut.
 mod checks;
+mod job_limits;
+mod outcomes;
+mod refused_jobs;
 mod runs;
+mod script_lines;
+mod simple_jobs;
 mod values;
 
 use crate::batches_of;

@@ -3,7 +3,9 @@ ghost use Rattle.std.specs.Prelude.{◌≡◌, ◌++◌, OnErr, OnOk, Some, code
 ghost use Rattle.std.specs.List.{flat_map};
 ghost use Rattle.rif_script.specs.Lines.{entry_line};
 ghost use Rattle.rif_terms.specs.Bindings.{value_at};
-ghost use Rattle.rif_script.specs.Trace.{forall_vars, bound_text, var_text, act_word, pick_text, fact_line, effect_text, act_text, turn_text, turns_text, firing_count, end_line, run_text};
+ghost use Rattle.rif_script.specs.Trace.{forall_vars, bound_text, var_text, act_word, pick_text, fact_line};
+ghost use Rattle.rif_script.specs.Trace.{effect_text, act_text, turn_text, turns_text, firing_count, end_line};
+ghost use Rattle.rif_script.specs.Trace.{run_text};
 
 use crate::job::Job;
 use crate::lines::{push_entry_lines, push_name, push_number};
@@ -103,7 +105,8 @@ fn push_pick(out: &mut Vec<u8>, doc: &Doc, pick: &Option<Instance>) -> Result<()
 
 // Appends the names and values of a rule's `Forall` variables.
 fn push_row(out: &mut Vec<u8>, rule: &Rule, row: &Binding) -> Result<(), OutOfMemory>
-    ensures { OnOk result (out.new.items ≡ out.old.items ++ flat_map (var_text rule.now row.now) (forall_vars rule.now)) }
+    ensures { OnOk result (out.new.items ≡
+        out.old.items ++ flat_map (var_text rule.now row.now) (forall_vars rule.now)) }
 {
     for level in rule.levels.as_slice() {
         push_vars(out, rule, row, level.vars.as_slice())?;

@@ -84,7 +84,10 @@ pub fn discount(rt: &impl Abort, alloc: Global) -> Result<(), Fail> {
             Shown::act(Act::StoppedQuiet),
         ],
         facts: 3,
-        text: "turn 1\nin a assert _c1 # _Customer\nin a assert _c1[_status->\"Silver\"]\nin a fire 10\nfired 1 ?c=_c1\n+ _c1[_discount->5]\nturn 2\nquiet\nend turns 2 firings 1 facts 3\n",
+        text: "turn 1\nin a assert _c1 # _Customer\nin a assert _c1[_status->\"Silver\"]\nin a fire 10\n\
+            fired 1 ?c=_c1\n+ _c1[_discount->5]\n\
+            turn 2\nquiet\n\
+            end turns 2 firings 1 facts 3\n",
     }
     .test(rt, alloc)
 }
@@ -116,7 +119,9 @@ pub fn same_value(rt: &impl Abort, alloc: Global) -> Result<(), Fail> {
             Shown::act(Act::StoppedQuiet),
         ],
         facts: 1,
-        text: "turn 1\nin a assert _c[_s->\"x\"]\nin a fire 5\nfired 1 ?c=_c\nturn 2\nquiet\nend turns 2 firings 1 facts 1\n",
+        text: "turn 1\nin a assert _c[_s->\"x\"]\nin a fire 5\nfired 1 ?c=_c\n\
+            turn 2\nquiet\n\
+            end turns 2 firings 1 facts 1\n",
     }
     .test(rt, alloc)
 }
@@ -157,7 +162,11 @@ pub fn resting(rt: &impl Abort, alloc: Global) -> Result<(), Fail> {
             Shown::act(Act::Halted),
         ],
         facts: 3,
-        text: "turn 1\nin a until 5\nrest\nturn 2\nin a assert _p(1)\nin a until 0\nfired 1 ?x=1\n+ _r(1)\nturn 3\nrest\nturn 4\nin a assert _p(2)\nin a halt\nhalted\nend turns 4 firings 1 facts 3\n",
+        text: "turn 1\nin a until 5\nrest\n\
+            turn 2\nin a assert _p(1)\nin a until 0\nfired 1 ?x=1\n+ _r(1)\n\
+            turn 3\nrest\n\
+            turn 4\nin a assert _p(2)\nin a halt\nhalted\n\
+            end turns 4 firings 1 facts 3\n",
     }
     .test(rt, alloc)
 }
@@ -187,7 +196,10 @@ pub fn invoice(rt: &impl Abort, alloc: Global) -> Result<(), Fail> {
             Shown::act(Act::StoppedQuiet),
         ],
         facts: 2,
-        text: "turn 1\nin a assert _o1 # _Order\nin a assert _o1[_t->5]\nin a fire 5\nfired 1 ?o=_o1\n- _o1[_t->5]\n- _o1 # _Order\n+ @0[_of->_o1]\n+ @0 # _Invoice\nturn 2\nquiet\nend turns 2 firings 1 facts 2\n",
+        text: "turn 1\nin a assert _o1 # _Order\nin a assert _o1[_t->5]\nin a fire 5\n\
+            fired 1 ?o=_o1\n- _o1[_t->5]\n- _o1 # _Order\n+ @0[_of->_o1]\n+ @0 # _Invoice\n\
+            turn 2\nquiet\n\
+            end turns 2 firings 1 facts 2\n",
     }
     .test(rt, alloc)
 }
@@ -209,7 +221,11 @@ pub fn levels_and_items(rt: &impl Abort, alloc: Global) -> Result<(), Fail> {
             Shown::act(Act::StoppedLimit),
         ],
         facts: 1,
-        text: "turn 1\nin b retract _o # _C\nin a retract _o _s\nin b retract _o\nin a modify _o[_s->true]\nin b fire 1\nfired 1 ?c=<http://e/j> ?k=<http://e/k>\nvoid\nturn 2\nlimit\nend turns 2 firings 1 facts 1\n",
+        text: "turn 1\nin b retract _o # _C\nin a retract _o _s\nin b retract _o\nin a modify _o[_s->true]\n\
+            in b fire 1\n\
+            fired 1 ?c=<http://e/j> ?k=<http://e/k>\nvoid\n\
+            turn 2\nlimit\n\
+            end turns 2 firings 1 facts 1\n",
     }
     .test(rt, alloc)
 }

@@ -7,13 +7,15 @@ use Rattle.rif_script.proofs.cutting.batches.Goals as goal
 
 pub from_entries-requires : goal.from_entries-requires
 from_entries-requires c =
-    lawful_closed c.loop-entry.open c.replace-batch.result c.in-Some.entry c.loop-entry.invariant.room c.loop-entry.invariant.changes
+    lawful_closed c.loop-entry.open c.replace-batch.result c.in-Some.entry c.loop-entry.invariant.room
+    c.loop-entry.invariant.changes
     (c.replace-batch.ensures.value ∙ c.in_ok-push.ensures.ok)
 
 pub loop-entry-preserved-in-Continue-branch-2 : goal.loop-entry-preserved-in-Continue-branch-2
 loop-entry-preserved-in-Continue-branch-2 c =
     let ends : ends_behind (length c.loop-entry.open) c.in-Some.entry.item ≡ true =
-    ap (λ (n : ℕ). ends_behind n c.in-Some.entry.item) (sym c.len.ensures) ∙ sym c.is_last-ends.ensures ∙ c.if-ends.true in
+    ap (λ (n : ℕ). ends_behind n c.in-Some.entry.item) (sym c.len.ensures) ∙ sym c.is_last-ends.ensures
+    ∙ c.if-ends.true in
     let empty : c.replace-batch.new.dest ≡ [] = c.replace-batch.ensures.after ∙ c.new.ensures in
     let batch : c.from_entries.result ≡ c.loop-entry.open ++ c.in-Some.entry ∷ [] =
     c.from_entries.ensures ∙ c.replace-batch.ensures.value ∙ c.in_ok-push.ensures.ok in
@@ -32,14 +34,17 @@ loop-entry-preserved-in-Continue-branch-2 c =
 pub loop-entry-preserved : goal.loop-entry-preserved
 loop-entry-preserved c =
     let ends : ends_behind (length c.loop-entry.open) c.in-Some.entry.item ≡ false =
-    ap (λ (n : ℕ). ends_behind n c.in-Some.entry.item) (sym c.len.ensures) ∙ sym c.is_last-ends.ensures ∙ c.if-ends.false in
+    ap (λ (n : ℕ). ends_behind n c.in-Some.entry.item) (sym c.len.ensures) ∙ sym c.is_last-ends.ensures
+    ∙ c.if-ends.false in
     record {
       counted = let more = ap length c.in-Some.ensures.steps.0 in omega
           (arith, more, c.in-Some.ensures.steps.1, c.loop-entry.invariant.counted);
       cut = entry_joins _ c.loop-entry.batches.items c.loop-entry.open c.push.new.self c.in-Some.entry
           (into_iter_items c.loop-entry.entry-iterator)
-          (into_iter_items c.next.new.self) ends c.in_ok-push.ensures.ok c.in-Some.ensures.steps.0 c.loop-entry.invariant.cut;
-      room = room_joined c.loop-entry.open c.push.new.self c.in-Some.entry c.loop-entry.invariant.room ends c.in_ok-push.ensures.ok;
+          (into_iter_items c.next.new.self) ends c.in_ok-push.ensures.ok c.in-Some.ensures.steps.0
+          c.loop-entry.invariant.cut;
+      room = room_joined c.loop-entry.open c.push.new.self c.in-Some.entry c.loop-entry.invariant.room ends
+          c.in_ok-push.ensures.ok;
       changes = changes_joined c.loop-entry.open c.push.new.self c.in-Some.entry c.loop-entry.invariant.changes ends
           c.in_ok-push.ensures.ok;
     }

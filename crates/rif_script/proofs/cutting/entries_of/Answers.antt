@@ -11,9 +11,11 @@ loop-client-preserved c =
     let client = c.loop-client-item.result.0 in
     let known : client < length counts =
     client_known items c.args.job.now.items i c.loop-client-item.result (length c.args.job.now.names) (length counts)
-    c.requires c.as_slice-client-items.ensures c.loop-client-test.true c.loop-client-item.is c.loop-client.invariant.clients in
+    c.requires c.as_slice-client-items.ensures c.loop-client-test.true c.loop-client-item.is
+    c.loop-client.invariant.clients in
     let past : i + 1 ≤ length items = omega (arith, c.loop-client-test.true) in
-    let rank : c.index.result.now ≡ get_or counts client 0 = c.index.ensures ∙ get_or_default counts client c.index.result.now 0 known in
+    let rank : c.index.result.now ≡ get_or counts client 0 =
+    c.index.ensures ∙ get_or_default counts client c.index.result.now 0 known in
     let count : c.index_mut.result.now ≡ get_or counts client 0 =
     c.index_mut.ensures.value ∙ get_or_default counts client c.index_mut.result.now 0 known in
     let counted = counted_more items i c.loop-client-item.result counts c.index_mut.result.now c.loop-client-test.true

@@ -7,6 +7,7 @@ invariant-loop-client l = record {
   made : l.entries.items ++ entries_after (take l.client-index l.client-items) (drop l.client-index l.client-items)
       ≡ entries_after [] l.client-items;
   clients : length l.sent.items ≡ length l.job.names;
-  counted : (c : ℕ) → c < length l.sent.items → get_or l.sent.items c 0 ≡ sent_count c (take l.client-index l.client-items);
+  counted : (c : ℕ) → c < length l.sent.items →
+      get_or l.sent.items c 0 ≡ sent_count c (take l.client-index l.client-items);
   few : (c : ℕ) → c < length l.sent.items → get_or l.sent.items c 0 ≤ l.client-index;
 }

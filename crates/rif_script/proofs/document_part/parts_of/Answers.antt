@@ -2,7 +2,9 @@ use Rattle.std.proofs.Common.{◌∙◌, ◌+◌, arith, sym, ap, ℕ, drop, tak
 use Rattle.std.proofs.lemmas.List.{append-nil, drop-drop}
 use Rattle.rif_script.specs.Jobs.{is_separator, lines_of}
 use Rattle.rif_script.specs.ReadingLines.{line_length}
-use Rattle.rif_script.proofs.TextLineLemmas.{behind_of, count_so_far, line_grows, no_lines_before, document_ends, document_so_far, line_fits, line_is_long, line_of, script_begins, script_so_far, some_left}
+use Rattle.rif_script.proofs.TextLineLemmas.{behind_of, count_so_far, line_grows, no_lines_before, document_ends}
+use Rattle.rif_script.proofs.TextLineLemmas.{document_so_far, line_fits, line_is_long, line_of, script_begins}
+use Rattle.rif_script.proofs.TextLineLemmas.{script_so_far, some_left}
 use Rattle.rif_script.proofs.document_part.parts_of.Goals as goal
 
 pub returns-then-is_separator : goal.returns-then-is_separator
@@ -15,9 +17,12 @@ returns-then-is_separator c =
     let test = ap is_separator (sym line) ∙ (sym c.is_separator.ensures ∙ c.if-is_separator.true) in
     let front = take at text in
     record {
-      document = sym (c.loop-at.invariant.document ∙ (ap (λ (xs : List ℕ). front ++ xs) (document_ends (drop at text) some_ test) ∙ append-nil front));
+      document = sym
+          (c.loop-at.invariant.document
+          ∙ (ap (λ (xs : List ℕ). front ++ xs) (document_ends (drop at text) some_ test) ∙ append-nil front));
       script = ap lines_of behind ∙ (sym (script_begins (drop at text) some_ test) ∙ sym c.loop-at.invariant.script);
-      first = (let none = no_lines_before (drop at text) some_ test in let so_far = c.loop-at.invariant.counted in omega (arith, none, so_far));
+      first = (let none = no_lines_before (drop at text) some_ test in let so_far = c.loop-at.invariant.counted in
+          omega (arith, none, so_far));
       last = (at + line_length (drop at text), behind ∙ drop-drop (line_length (drop at text)) at text);
     }
 
@@ -33,6 +38,7 @@ loop-at-preserved c =
       within = line_fits at _ text c.loop-at-test.true size;
       document = document_so_far at _ text size some_ test c.loop-at.invariant.document;
       counted = count_so_far at _ c.loop-at.lines text size some_ test c.loop-at.invariant.counted;
-      few = (let before = c.loop-at.invariant.few in let grow = line_grows (drop at text) some_ in omega (arith, before, grow, size));
+      few = (let before = c.loop-at.invariant.few in let grow = line_grows (drop at text) some_ in
+          omega (arith, before, grow, size));
       script = script_so_far at _ text size some_ test c.loop-at.invariant.script;
     }

@@ -11,4 +11,5 @@ pub returns-clause-read : goal.returns-clause-read
 returns-clause-read c = text_read c.args.text.now _ c.read_parts.result c.in_ok-found.ensures c.read_parts.ensures.read
 
 pub returns-clause-refused : goal.returns-clause-refused
-returns-clause-refused c = text_refused c.args.text.now _ c.read_parts.result c.in_ok-found.ensures c.read_parts.ensures.refused
+returns-clause-refused c =
+    text_refused c.args.text.now _ c.read_parts.result c.in_ok-found.ensures c.read_parts.ensures.refused

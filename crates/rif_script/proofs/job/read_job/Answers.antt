@@ -17,9 +17,12 @@ read_script-requires c =
 pub returns-in_err-script-clause-refused : goal.returns-in_err-script-clause-refused
 returns-in_err-script-clause-refused c =
     let p = err_from_is_err_and c.from_residual-in_err-script.result c.from_residual-in_err-script.ensures.1 in
-    let document = document_of c.args.bytes.now _ c.in_ok-doc.doc c.in_ok-doc.prefixes c.parts_of-parts.ensures.document c.in_ok-doc.ensures.read in
+    let document =
+    document_of c.args.bytes.now _ c.in_ok-doc.doc c.in_ok-doc.prefixes c.parts_of-parts.ensures.document
+    c.in_ok-doc.ensures.read in
     rw (p.1, p.2) (script_refuses c.args.bytes.now _ _ c.in_ok-doc.doc c.in_ok-doc.prefixes c.in_err-script.field-0.0
-    c.parts_of-parts.ensures.script c.parts_of-parts.ensures.first c.in_ok-is_text.ensures.text document c.in_err-script.ensures)
+    c.parts_of-parts.ensures.script c.parts_of-parts.ensures.first c.in_ok-is_text.ensures.text document
+    c.in_err-script.ensures)
 
 pub returns-clause-clients : goal.returns-clause-clients
 returns-clause-clients c =
@@ -30,6 +33,8 @@ returns-clause-clients c =
 pub returns-clause-read : goal.returns-clause-read
 returns-clause-read c =
     let script = c.in_ok-script.script in
-    let document = document_of c.args.bytes.now _ c.in_ok-doc.doc c.in_ok-doc.prefixes c.parts_of-parts.ensures.document c.in_ok-doc.ensures.read in
+    let document =
+    document_of c.args.bytes.now _ c.in_ok-doc.doc c.in_ok-doc.prefixes c.parts_of-parts.ensures.document
+    c.in_ok-doc.ensures.read in
     job_of c.args.bytes.now _ _ c.in_ok-doc.doc c.in_ok-doc.prefixes script
     c.parts_of-parts.ensures.script c.in_ok-is_text.ensures.text document c.in_ok-script.ensures

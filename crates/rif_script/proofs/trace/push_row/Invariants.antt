@@ -4,4 +4,5 @@ use Rattle.rif_script.proofs.trace.push_row.Given as goal
 
 abbrev pub invariant-loop-level : goal.invariant-loop-level
 invariant-loop-level l =
-    l.out.items ≡ l.fn.out.items ++ flat_map (var_text l.rule l.row) (flat_map (λ level. level.vars) (take l.level-index l.rule.levels))
+    l.out.items ≡ l.fn.out.items ++
+    flat_map (var_text l.rule l.row) (flat_map (λ level. level.vars) (take l.level-index l.rule.levels))

@@ -5,7 +5,8 @@ use Rattle.rif_script.proofs.script.Script.with_room.Goals as goal
 pub returns-in_err-client-clause-is : goal.returns-in_err-client-clause-is
 returns-in_err-client-clause-is c =
     let p = err_from_is_err_and c.from_residual.result c.from_residual.ensures.1 in
-    rw (p.1, p.2) (no_client c.in_err-client.field-0.0 c.args.number c.args.self (c.args.name.now, c.args.item) c.args.budgets c.in_err-client.ensures.is)
+    rw (p.1, p.2) (no_client c.in_err-client.field-0.0 c.args.number c.args.self (c.args.name.now, c.args.item)
+    c.args.budgets c.in_err-client.ensures.is)
 
 pub returns-clause-is : goal.returns-clause-is
 returns-clause-is c =

@@ -5,7 +5,8 @@ use Rattle.rif_script.proofs.script.Script.with_sent.Goals as goal
 pub returns-in_err-budgets-clause-is : goal.returns-in_err-budgets-clause-is
 returns-in_err-budgets-clause-is c =
     let p = err_from_is_err_and c.from_residual.result c.from_residual.ensures.1 in
-    rw (p.1, p.2) (no_room c.in_err-budgets.field-0.0 c.args.number c.args.self (c.args.name.now, c.args.item) c.in_err-budgets.ensures)
+    rw (p.1, p.2) (no_room c.in_err-budgets.field-0.0 c.args.number c.args.self (c.args.name.now, c.args.item)
+    c.in_err-budgets.ensures)
 
 pub returns-clause-is : goal.returns-clause-is
 returns-clause-is c =

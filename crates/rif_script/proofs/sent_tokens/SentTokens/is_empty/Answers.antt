@@ -9,5 +9,6 @@ pub returns : goal.returns
 returns c =
     let self = c.args.self in (
       λ test. none_left self.prefixes.now self.bytes.now self.tokens.now self.at (grind (arith, nat_tests)),
-      λ none. (let same = all_read self.prefixes.now self.bytes.now self.tokens.now self.at self.within none in grind (arith, nat_tests)),
+      λ none. (let same = all_read self.prefixes.now self.bytes.now self.tokens.now self.at self.within none in
+          grind (arith, nat_tests)),
     )
