@@ -1,5 +1,6 @@
 -- What is counted among leaves is never more than they are.
-use Rattle.std.proofs.Common.{◌≡◌, ◌≤◌, ◌<◌, ◌+◌, ◌^◌, sym, subst, ℕ, Bool, true, false, List, [], ◌∷◌, length, Some, None, suc, pred, arith, take, length-take-le}
+use Rattle.std.proofs.Common.{◌≡◌, ◌≤◌, ◌<◌, ◌+◌, ◌^◌, sym, subst, ℕ, Bool, true, false, List, [], ◌∷◌, length, Some}
+use Rattle.std.proofs.Common.{None, suc, pred, arith, take, length-take-le}
 use Rattle.std.specs.Prelude.{if◌then◌else◌}
 use Rattle.std.specs.declared.option.Option.{Option}
 use Rattle.prd_reader.specs.declared.leaf.BuiltinName.TheVariants.{Known, Unknown, Undeclared}
@@ -7,7 +8,9 @@ use Rattle.prd_reader.specs.declared.leaf.Leaf.{Leaf}
 use Rattle.prd_reader.specs.declared.leaf.Leaf.TheVariants.{Builtin, Open, Close, OpenSquare, CloseSquare}
 use Rattle.prd_reader.specs.declared.progress.Bracket.{Bracket}
 use Rattle.prd_reader.specs.declared.progress.Bracket.TheVariants.{Plain, Arguments}
-use Rattle.prd_reader.specs.Progress.{Progress, Counts, at_start, begins_rule, brackets_with, counts_with, is_action, is_new_rule, is_pattern, is_term, no_counts, opened, progress_from, progress_of, progress_with, with_argument}
+use Rattle.prd_reader.specs.Progress.{Progress, Counts, at_start, begins_rule, brackets_with, counts_with, is_action}
+use Rattle.prd_reader.specs.Progress.{is_new_rule, is_pattern, is_term, no_counts, opened, progress_from, progress_of}
+use Rattle.prd_reader.specs.Progress.{progress_with, with_argument}
 use Rattle.prd_reader.specs.Reached.{HasRoom, RuleHasRoom, ends_at, rule_from, rule_kept}
 use Rattle.prd_reader.proofs.ProgressLemmas.{rule_with_is}
 
@@ -41,12 +44,14 @@ opened_few n bs (Builtin Unknown) few = few
 opened_few n bs (Builtin Undeclared) few = few
 opened_few n bs _ few = few
 
-closed_few : (n : ℕ) (bs : List Bracket) (last : Leaf) → FewArguments n bs → FewArguments (suc n) (brackets_with bs last Close)
+closed_few : (n : ℕ) (bs : List Bracket) (last : Leaf) → FewArguments n bs →
+    FewArguments (suc n) (brackets_with bs last Close)
 closed_few n [] last few = tt
 closed_few n (Plain ∷ bs) last few = more_arguments n bs few
 closed_few n (Arguments b k ∷ bs) last few = more_arguments n bs few.1
 
-brackets_few : (n : ℕ) (bs : List Bracket) (last l : Leaf) → FewArguments n bs → FewArguments (suc n) (brackets_with bs last l)
+brackets_few : (n : ℕ) (bs : List Bracket) (last l : Leaf) → FewArguments n bs →
+    FewArguments (suc n) (brackets_with bs last l)
 brackets_few n bs last Open few = opened_few (suc n) bs last (more_arguments n bs few)
 brackets_few n bs last OpenSquare few = more_arguments n bs few
 brackets_few n bs last Close few = closed_few n bs last few
@@ -62,12 +67,14 @@ one_more n k false low = omega arith
 
 from_few : (n : ℕ) (o : Option Counts) (depth : ℕ) (l : Leaf) → FewCounted n o → FewCounted n (rule_from o depth l)
 from_few n (Some c) depth l few = few
-from_few n None depth l few = elim (begins_rule l) as (λ b. FewCounted n (if b then Some (no_counts depth) else None)) [
-  | true ↦ (omega arith, omega arith)
-  | false ↦ tt
-]
+from_few n None depth l few =
+    elim (begins_rule l) as (λ b. FewCounted n (if b then Some (no_counts depth) else None)) [
+      | true ↦ (omega arith, omega arith)
+      | false ↦ tt
+    ]
 
-kept_few : (n behind : ℕ) (named : Bool) (o : Option Counts) (l : Leaf) → FewCounted n o → FewCounted (suc n) (rule_kept behind named o l)
+kept_few : (n behind : ℕ) (named : Bool) (o : Option Counts) (l : Leaf) → FewCounted n o →
+    FewCounted (suc n) (rule_kept behind named o l)
 kept_few n behind named None l few = tt
 kept_few n behind named (Some c) l few =
     elim (ends_at behind c l) as (λ b. FewCounted (suc n) (if b then None else Some (counts_with named c l))) [
@@ -89,7 +96,8 @@ few_from n m p [] is few = let e : n ≡ m = omega (arith, is) in subst (λ (k :
 few_from n m p (l ∷ ls) is few = few_from (suc n) m (progress_with p l) ls (omega (arith, is)) (few_with n p l few)
 
 pub are_few : (ls : List Leaf) → AreFew (length ls) (progress_of ls)
-are_few ls = few_from 0 (length ls) at_start ls (omega arith) (record { arguments = tt; rules = omega arith; rule = tt })
+are_few ls = few_from 0 (length ls) at_start ls (omega arith)
+    (record { arguments = tt; rules = omega arith; rule = tt })
 
 -- what the code counts still fits
 pub record HasRooms (p : Progress) : Type 0 where
@@ -106,10 +114,12 @@ rule_room : (n : ℕ) (o : Option Counts) → n + 1 < 2 ^ 64 → FewCounted n o 
 rule_room n None fits few = tt
 rule_room n (Some c) fits few = let low = few.0 in let high = few.1 in (omega arith, omega arith)
 
-pub has_rooms : (ls : List Leaf) (i : ℕ) (p : Progress) → i ≤ length ls → i + 1 < 2 ^ 64 → p ≡ progress_of (take i ls) → HasRooms p
+pub has_rooms : (ls : List Leaf) (i : ℕ) (p : Progress) → i ≤ length ls → i + 1 < 2 ^ 64 →
+    p ≡ progress_of (take i ls) → HasRooms p
 has_rooms ls i p inside fits seen =
     let size : length (take i ls) ≡ i = length-take-le i ls inside in
-    let few : AreFew i p = subst (λ (n : ℕ). AreFew n p) size (subst (AreFew (length (take i ls))) (sym seen) (are_few (take i ls))) in
+    let few : AreFew i p =
+    subst (λ (n : ℕ). AreFew n p) size (subst (AreFew (length (take i ls))) (sym seen) (are_few (take i ls))) in
     record {
       arguments = brackets_room i p.brackets fits few.arguments;
       rules = let low = few.rules in omega arith;

@@ -7,9 +7,12 @@ use Rattle.rif_terms.specs.declared.rule.Action.{Action}
 use Rattle.rif_terms.specs.declared.rule.Decl.{Decl}
 use Rattle.rif_terms.specs.declared.rule.Rule.{Rule}
 use Rattle.rif_terms.specs.declared.rule.Doc.{Doc}
-use Rattle.prd_reader.specs.Trees.{BlockTree, RuleTree, GroupTree, group, MemberTrees, no_members, rule_member, group_member, PrefixTrees, no_group, one_group, prefix, DocumentTree, document}
-use Rattle.prd_reader.specs.Values.{rule_names, rule_levels, rule_condition, rule_block, block_decls, block_actions, rule_value, priority_in, group_rules, member_rules, rules_behind, document_value}
-use Rattle.prd_reader.specs.CanonicalTrees.{canonical_rule, canonical_block, canonical_group, canonical_members, around_members, canonical_prefixes, canonical_document}
+use Rattle.prd_reader.specs.Trees.{BlockTree, RuleTree, GroupTree, group, MemberTrees, no_members, rule_member}
+use Rattle.prd_reader.specs.Trees.{group_member, PrefixTrees, no_group, one_group, prefix, DocumentTree, document}
+use Rattle.prd_reader.specs.Values.{rule_names, rule_levels, rule_condition, rule_block, block_decls, block_actions}
+use Rattle.prd_reader.specs.Values.{rule_value, priority_in, group_rules, member_rules, rules_behind, document_value}
+use Rattle.prd_reader.specs.CanonicalTrees.{canonical_rule, canonical_block, canonical_group, canonical_members}
+use Rattle.prd_reader.specs.CanonicalTrees.{around_members, canonical_prefixes, canonical_document}
 use Rattle.prd_reader.proofs.CanonicalValueLemmas.{same_levels, same_condition, same_block, same_decls, same_actions}
 use Rattle.prd_reader.proofs.CanonicalRuleLemmas.{same_names}
 
@@ -30,9 +33,11 @@ same_rule p r =
     let b = canonical_block (rule_block r) in
     ap (λ (x : List (List ℕ)). made p x (rule_levels x c) (rule_condition x c) (block_decls x (rule_block c))
     (block_actions x (rule_block c))) (same_names r)
-    ∙ (ap (λ (x : BlockTree). made p ns (rule_levels ns c) (rule_condition ns c) (block_decls ns x) (block_actions ns x))
+    ∙ (ap (λ (x : BlockTree). made p ns (rule_levels ns c) (rule_condition ns c) (block_decls ns x)
+    (block_actions ns x))
     (same_block r)
-    ∙ (ap (λ (x : List Level). made p ns x (rule_condition ns c) (block_decls ns b) (block_actions ns b)) (same_levels ns r)
+    ∙ (ap (λ (x : List Level). made p ns x (rule_condition ns c) (block_decls ns b) (block_actions ns b))
+    (same_levels ns r)
     ∙ (ap (λ (x : Option Formula). made p ns (rule_levels ns r) x (block_decls ns b) (block_actions ns b))
     (same_condition ns r)
     ∙ (ap (λ (x : List Decl). made p ns (rule_levels ns r) (rule_condition ns r) x (block_actions ns b))

@@ -2,11 +2,16 @@
 use Rattle.std.proofs.Common.{◌≡◌, ℕ, List, [], ◌∷◌, ◌++◌, refl, ap, ◌∙◌, sym}
 use Rattle.prd_reader.specs.declared.leaf.Leaf.{Leaf}
 use Rattle.prd_reader.specs.declared.leaf.Leaf.TheVariants.{Close, Arrow, CloseSquare}
-use Rattle.prd_reader.specs.Trees.{ConstTree, const_int, const_string, const_typed, const_iri, const_curie, const_local, const_true, const_false, spell_const, FuncTree, func_known, func_unknown, func_undeclared, func_leaf, TermTree, constant, variable, call, TermTrees, no_terms, terms, spell_term, spell_terms, PairTrees, last_pair, pairs, spell_pairs}
+use Rattle.prd_reader.specs.Trees.{ConstTree, const_int, const_string, const_typed, const_iri, const_curie}
+use Rattle.prd_reader.specs.Trees.{const_local, const_true, const_false, spell_const, FuncTree, func_known}
+use Rattle.prd_reader.specs.Trees.{func_unknown, func_undeclared, func_leaf, TermTree, constant, variable, call}
+use Rattle.prd_reader.specs.Trees.{TermTrees, no_terms, terms, spell_term, spell_terms, PairTrees, last_pair, pairs}
+use Rattle.prd_reader.specs.Trees.{spell_pairs}
 use Rattle.prd_reader.specs.Values.{names_with, names_from, const_value}
 use Rattle.prd_reader.specs.CanonicalTrees.{const_tree, canonical_term, canonical_terms, canonical_pairs}
 
-pub names_both : (ns : List (List ℕ)) (ls ms : List Leaf) → names_from ns (ls ++ ms) ≡ names_from (names_from ns ls) ms
+pub names_both : (ns : List (List ℕ)) (ls ms : List Leaf) →
+    names_from ns (ls ++ ms) ≡ names_from (names_from ns ls) ms
 names_both ns [] ms = refl
 names_both ns (l ∷ ls) ms = names_both (names_with ns l) ls ms
 
@@ -52,12 +57,15 @@ mutual
 pub names_of_pairs : (ns : List (List ℕ)) (ps : PairTrees) →
     names_from ns (spell_pairs (canonical_pairs ps)) ≡ names_from ns (spell_pairs ps)
 names_of_pairs ns (last_pair s v) =
-    names_on ns (spell_term (canonical_term s)) (spell_term s) (Arrow ∷ (spell_term (canonical_term v) ++ CloseSquare ∷ []))
+    names_on ns (spell_term (canonical_term s)) (spell_term s)
+    (Arrow ∷ (spell_term (canonical_term v) ++ CloseSquare ∷ []))
     (Arrow ∷ (spell_term v ++ CloseSquare ∷ [])) (names_of_term ns s)
     (λ ms. names_on ms (spell_term (canonical_term v)) (spell_term v) (CloseSquare ∷ []) (CloseSquare ∷ [])
     (names_of_term ms v) (λ os. refl))
 names_of_pairs ns (pairs s v ps) =
-    names_on ns (spell_term (canonical_term s)) (spell_term s) (Arrow ∷ (spell_term (canonical_term v) ++ spell_pairs (canonical_pairs ps)))
+    names_on ns (spell_term (canonical_term s)) (spell_term s)
+    (Arrow ∷ (spell_term (canonical_term v) ++ spell_pairs (canonical_pairs ps)))
     (Arrow ∷ (spell_term v ++ spell_pairs ps)) (names_of_term ns s)
-    (λ ms. names_on ms (spell_term (canonical_term v)) (spell_term v) (spell_pairs (canonical_pairs ps)) (spell_pairs ps)
+    (λ ms. names_on ms (spell_term (canonical_term v)) (spell_term v) (spell_pairs (canonical_pairs ps))
+    (spell_pairs ps)
     (names_of_term ms v) (λ os. names_of_pairs os ps))

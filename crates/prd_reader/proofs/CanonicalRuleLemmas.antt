@@ -2,10 +2,25 @@
 use Rattle.std.proofs.Common.{◌≡◌, ℕ, List, [], ◌∷◌, ◌++◌, refl, ap, ◌∙◌, sym}
 use Rattle.prd_reader.specs.declared.leaf.Keyword.TheVariants.{Such, That, Then, Do}
 use Rattle.prd_reader.specs.declared.leaf.Leaf.{Leaf}
-use Rattle.prd_reader.specs.declared.leaf.Leaf.TheVariants.{Key, Var, Close, Open, Arrow, OpenSquare, CloseSquare, Hash}
-use Rattle.prd_reader.specs.Trees.{NameTree, name_iri, name_curie, name_local, name_typed_iri, name_typed_local, spell_name, TermTree, spell_term, spell_terms, spell_pairs, Tail, equals, member_of, with_pairs, spell_tail, spell_vars, NotWord, spelled_not, spelled_ineg, not_leaf, FirstTerm, first_constant, first_variable, first_call, term_of_first, PredTree, pred_known, pred_unknown, pred_undeclared, pred_leaf, FormulaTree, conj, disj, neg, some, grouped, holds, compared, atom, FormulaTrees, no_formulas, formulas, spell_formula, spell_formulas, TargetTree, target_member, target_frame, target_atom, spell_target, ActionTree, assert, retract, retract_slot, retract_object, modify, spell_action, ActionTrees, last_action, actions, spell_actions, BlockTree, acts, new_object, slot_value, spell_block, SuchTrees, last_such, more_such, spell_such, RuleTree, for_all, for_all_such, if_then, block, spell_rule}
+use Rattle.prd_reader.specs.declared.leaf.Leaf.TheVariants.{Key, Var, Close, Open, Arrow, OpenSquare, CloseSquare}
+use Rattle.prd_reader.specs.declared.leaf.Leaf.TheVariants.{Hash}
+use Rattle.prd_reader.specs.Trees.{NameTree, name_iri, name_curie, name_local, name_typed_iri, name_typed_local}
+use Rattle.prd_reader.specs.Trees.{spell_name, TermTree, spell_term, spell_terms, spell_pairs, Tail, equals}
+use Rattle.prd_reader.specs.Trees.{member_of, with_pairs, spell_tail, spell_vars, NotWord, spelled_not, spelled_ineg}
+use Rattle.prd_reader.specs.Trees.{not_leaf, FirstTerm, first_constant, first_variable, first_call, term_of_first}
+use Rattle.prd_reader.specs.Trees.{PredTree, pred_known, pred_unknown, pred_undeclared, pred_leaf, FormulaTree, conj}
+use Rattle.prd_reader.specs.Trees.{disj, neg, some, grouped, holds, compared, atom, FormulaTrees, no_formulas}
+use Rattle.prd_reader.specs.Trees.{formulas, spell_formula, spell_formulas, TargetTree, target_member, target_frame}
+use Rattle.prd_reader.specs.Trees.{target_atom, spell_target, ActionTree, assert, retract, retract_slot}
+use Rattle.prd_reader.specs.Trees.{retract_object, modify, spell_action, ActionTrees, last_action, actions}
+use Rattle.prd_reader.specs.Trees.{spell_actions, BlockTree, acts, new_object, slot_value, spell_block, SuchTrees}
+use Rattle.prd_reader.specs.Trees.{last_such, more_such, spell_such, RuleTree, for_all, for_all_such, if_then, block}
+use Rattle.prd_reader.specs.Trees.{spell_rule}
 use Rattle.prd_reader.specs.Values.{names_with, names_from, rule_names}
-use Rattle.prd_reader.specs.CanonicalTrees.{canonical_name, canonical_first, canonical_term, canonical_terms, canonical_pairs, canonical_tail, canonical_formula, canonical_formulas, canonical_target, canonical_action, canonical_actions, canonical_block, canonical_such, canonical_rule}
+use Rattle.prd_reader.specs.CanonicalTrees.{canonical_name, canonical_first, canonical_term, canonical_terms}
+use Rattle.prd_reader.specs.CanonicalTrees.{canonical_pairs, canonical_tail, canonical_formula, canonical_formulas}
+use Rattle.prd_reader.specs.CanonicalTrees.{canonical_target, canonical_action, canonical_actions, canonical_block}
+use Rattle.prd_reader.specs.CanonicalTrees.{canonical_such, canonical_rule}
 use Rattle.prd_reader.proofs.CanonicalNameLemmas.{names_both, names_on, names_of_term, names_of_terms, names_of_pairs}
 
 -- the same text on both sides, and more behind it
@@ -55,7 +70,8 @@ mutual
   names_of_formula ns (conj fs) = names_of_formulas ns fs
   names_of_formula ns (disj fs) = names_of_formulas ns fs
   names_of_formula ns (neg w f) =
-      names_on ns (spell_formula (canonical_formula f)) (spell_formula f) (Close ∷ []) (Close ∷ []) (names_of_formula ns f)
+      names_on ns (spell_formula (canonical_formula f)) (spell_formula f) (Close ∷ []) (Close ∷ [])
+      (names_of_formula ns f)
       (λ ps. refl)
       ∙ ap (λ (x : List (List ℕ)). names_from x (spell_formula f ++ Close ∷ [])) (sym (no_not_name ns w))
   names_of_formula ns (some vs f) =
@@ -113,7 +129,8 @@ names_of_action ns (retract_slot o s) =
 names_of_action ns (retract_object o) =
     closed_on ns (spell_term (canonical_term o)) (spell_term o) (names_of_term ns o)
 names_of_action ns (modify o ps) =
-    names_on ns (spell_term (canonical_term o)) (spell_term o) (OpenSquare ∷ (spell_pairs (canonical_pairs ps) ++ Close ∷ []))
+    names_on ns (spell_term (canonical_term o)) (spell_term o)
+    (OpenSquare ∷ (spell_pairs (canonical_pairs ps) ++ Close ∷ []))
     (OpenSquare ∷ (spell_pairs ps ++ Close ∷ [])) (names_of_term ns o)
     (λ ms. closed_on ms (spell_pairs (canonical_pairs ps)) (spell_pairs ps) (names_of_pairs ms ps))
 
@@ -131,7 +148,8 @@ names_of_block ns (acts a) = names_of_actions ns a
 names_of_block ns (new_object v b) = names_of_block (names_with ns (Var v)) b
 names_of_block ns (slot_value v o s b) =
     names_on (names_with ns (Var v)) (spell_term (canonical_term o)) (spell_term o)
-    (OpenSquare ∷ (spell_term (canonical_term s) ++ Arrow ∷ Var v ∷ CloseSquare ∷ Close ∷ spell_block (canonical_block b)))
+    (OpenSquare ∷ (spell_term (canonical_term s) ++ Arrow ∷ Var v ∷ CloseSquare ∷ Close
+    ∷ spell_block (canonical_block b)))
     (OpenSquare ∷ (spell_term s ++ Arrow ∷ Var v ∷ CloseSquare ∷ Close ∷ spell_block b))
     (names_of_term (names_with ns (Var v)) o)
     (λ ms. names_on ms (spell_term (canonical_term s)) (spell_term s)
@@ -142,10 +160,12 @@ names_of_block ns (slot_value v o s b) =
 names_of_such : (ns : List (List ℕ)) (fs : SuchTrees) →
     names_from ns (spell_such (canonical_such fs)) ≡ names_from ns (spell_such fs)
 names_of_such ns (last_such f) =
-    names_on ns (spell_formula (canonical_formula f)) (spell_formula f) (Open ∷ []) (Open ∷ []) (names_of_formula ns f)
+    names_on ns (spell_formula (canonical_formula f)) (spell_formula f) (Open ∷ []) (Open ∷ [])
+    (names_of_formula ns f)
     (λ ps. refl)
 names_of_such ns (more_such f fs) =
-    names_on ns (spell_formula (canonical_formula f)) (spell_formula f) (spell_such (canonical_such fs)) (spell_such fs)
+    names_on ns (spell_formula (canonical_formula f)) (spell_formula f) (spell_such (canonical_such fs))
+    (spell_such fs)
     (names_of_formula ns f) (λ ps. names_of_such ps fs)
 
 names_of_rule : (ns : List (List ℕ)) (r : RuleTree) →

@@ -2,10 +2,26 @@
 use Rattle.std.proofs.Common.{◌≡◌, ℕ, Bool, true, false, List, refl}
 use Rattle.rif_terms.specs.declared.constant.Const.TheVariants.{Bool as BoolConst}
 use Rattle.prd_reader.specs.declared.leaf.Literal.{Literal}
-use Rattle.prd_reader.specs.declared.leaf.Literal.TheVariants.{Integer, Boolean, String, Iri as IriLiteral, Local as LocalLiteral, OfNoType}
-use Rattle.prd_reader.specs.Trees.{ConstTree, const_int, const_string, const_typed, const_iri, const_curie, const_local, const_true, const_false, NameTree, name_iri, name_curie, name_local, name_typed_iri, name_typed_local, FirstTerm, first_constant, first_variable, first_call, term_of_first, TermTree, constant, variable, call, TermTrees, no_terms, terms, PairTrees, last_pair, pairs, Tail, equals, member_of, with_pairs, FormulaTree, conj, disj, neg, some, grouped, holds, compared, atom, FormulaTrees, no_formulas, formulas, TargetTree, target_member, target_frame, target_atom, ActionTree, assert, retract, retract_slot, retract_object, modify, ActionTrees, last_action, actions, BlockTree, acts, new_object, slot_value, SuchTrees, last_such, more_such, RuleTree, for_all, for_all_such, if_then, block}
-use Rattle.prd_reader.specs.Values.{literal_value, const_value, name_value, term_value, terms_value, pairs_value, tail_value, formula_value, formulas_value, target_value, action_value, actions_value, block_decls, block_actions, such_value, rule_levels, rule_condition, rule_block}
-use Rattle.prd_reader.specs.CanonicalTrees.{const_tree, canonical_name, canonical_first, canonical_term, canonical_terms, canonical_pairs, canonical_tail, canonical_formula, canonical_formulas, canonical_target, canonical_action, canonical_actions, canonical_block, canonical_such, canonical_rule}
+use Rattle.prd_reader.specs.declared.leaf.Literal.TheVariants.{Integer, Boolean, String, Iri as IriLiteral}
+use Rattle.prd_reader.specs.declared.leaf.Literal.TheVariants.{Local as LocalLiteral, OfNoType}
+use Rattle.prd_reader.specs.Trees.{ConstTree, const_int, const_string, const_typed, const_iri, const_curie}
+use Rattle.prd_reader.specs.Trees.{const_local, const_true, const_false, NameTree, name_iri, name_curie, name_local}
+use Rattle.prd_reader.specs.Trees.{name_typed_iri, name_typed_local, FirstTerm, first_constant, first_variable}
+use Rattle.prd_reader.specs.Trees.{first_call, term_of_first, TermTree, constant, variable, call, TermTrees, no_terms}
+use Rattle.prd_reader.specs.Trees.{terms, PairTrees, last_pair, pairs, Tail, equals, member_of, with_pairs}
+use Rattle.prd_reader.specs.Trees.{FormulaTree, conj, disj, neg, some, grouped, holds, compared, atom, FormulaTrees}
+use Rattle.prd_reader.specs.Trees.{no_formulas, formulas, TargetTree, target_member, target_frame, target_atom}
+use Rattle.prd_reader.specs.Trees.{ActionTree, assert, retract, retract_slot, retract_object, modify, ActionTrees}
+use Rattle.prd_reader.specs.Trees.{last_action, actions, BlockTree, acts, new_object, slot_value, SuchTrees}
+use Rattle.prd_reader.specs.Trees.{last_such, more_such, RuleTree, for_all, for_all_such, if_then, block}
+use Rattle.prd_reader.specs.Values.{literal_value, const_value, name_value, term_value, terms_value, pairs_value}
+use Rattle.prd_reader.specs.Values.{tail_value, formula_value, formulas_value, target_value, action_value}
+use Rattle.prd_reader.specs.Values.{actions_value, block_decls, block_actions, such_value, rule_levels}
+use Rattle.prd_reader.specs.Values.{rule_condition, rule_block}
+use Rattle.prd_reader.specs.CanonicalTrees.{const_tree, canonical_name, canonical_first, canonical_term}
+use Rattle.prd_reader.specs.CanonicalTrees.{canonical_terms, canonical_pairs, canonical_tail, canonical_formula}
+use Rattle.prd_reader.specs.CanonicalTrees.{canonical_formulas, canonical_target, canonical_action, canonical_actions}
+use Rattle.prd_reader.specs.CanonicalTrees.{canonical_block, canonical_such, canonical_rule}
 
 truth_value : (b : Bool) → const_value (const_tree (BoolConst b)) ≡ BoolConst b
 truth_value true = refl
@@ -68,7 +84,8 @@ value_of_compared ns t (with_pairs ps) = let h = first_term t in let e = value_o
     let f = value_of_pairs ns ps in rw (h, e, f) refl
 
 mutual
-  value_of_formula : (ns : List (List ℕ)) (f : FormulaTree) → formula_value ns (canonical_formula f) ≡ formula_value ns f
+  value_of_formula : (ns : List (List ℕ)) (f : FormulaTree) →
+      formula_value ns (canonical_formula f) ≡ formula_value ns f
   value_of_formula ns (conj fs) = let e = value_of_formulas ns fs in rw e refl
   value_of_formula ns (disj fs) = let e = value_of_formulas ns fs in rw e refl
   value_of_formula ns (neg w f) = let e = value_of_formula ns f in rw e refl
@@ -81,7 +98,8 @@ mutual
   value_of_formulas : (ns : List (List ℕ)) (fs : FormulaTrees) →
       formulas_value ns (canonical_formulas fs) ≡ formulas_value ns fs
   value_of_formulas ns no_formulas = refl
-  value_of_formulas ns (formulas f fs) = let e = value_of_formula ns f in let g = value_of_formulas ns fs in rw (e, g) refl
+  value_of_formulas ns (formulas f fs) = let e = value_of_formula ns f in let g = value_of_formulas ns fs in
+      rw (e, g) refl
 
 value_of_target : (ns : List (List ℕ)) (t : TargetTree) → target_value ns (canonical_target t) ≡ target_value ns t
 value_of_target ns (target_member o c) =

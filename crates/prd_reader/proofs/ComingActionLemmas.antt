@@ -3,14 +3,29 @@ use Rattle.std.proofs.Common.{◌≡◌, ℕ, List, [], ◌∷◌, ◌++◌, Som
 use Rattle.std.specs.declared.option.Option.{Option}
 use Rattle.prd_reader.specs.declared.leaf.Keyword.TheVariants.{New, Assert, Retract, Modify}
 use Rattle.prd_reader.specs.declared.leaf.Leaf.{Leaf}
-use Rattle.prd_reader.specs.declared.leaf.Leaf.TheVariants.{Key, Var, Open as OpenLeaf, Close as CloseLeaf, OpenSquare as OpenSquareLeaf, Hash}
+use Rattle.prd_reader.specs.declared.leaf.Leaf.TheVariants.{Key, Var, Open as OpenLeaf, Close as CloseLeaf}
+use Rattle.prd_reader.specs.declared.leaf.Leaf.TheVariants.{OpenSquare as OpenSquareLeaf, Hash}
 use Rattle.prd_reader.specs.declared.want.Want.{Want}
-use Rattle.prd_reader.specs.declared.want.Want.TheVariants.{Block, Actions, DeclVariable, DeclRest, SameVariable, Target, TargetTail, TargetAfterName, Retracted, RetractedTail, RetractedAfterName, Term, OpenSquare, CloseSquare, Arrow, Close}
-use Rattle.prd_reader.specs.Following.{next, followed, term_next, target_tail_next, retracted_tail_next, action_next, decl_next}
-use Rattle.prd_reader.specs.Trees.{NameTree, const_of_name, TermTree, constant, TargetTree, target_member, target_frame, target_atom, ActionTree, assert, retract, retract_slot, retract_object, modify, ActionTrees, last_action, actions, BlockTree, acts, new_object, slot_value}
+use Rattle.prd_reader.specs.declared.want.Want.TheVariants.{Block, Actions, DeclVariable, DeclRest, SameVariable}
+use Rattle.prd_reader.specs.declared.want.Want.TheVariants.{Target, TargetTail, TargetAfterName, Retracted}
+use Rattle.prd_reader.specs.declared.want.Want.TheVariants.{RetractedTail, RetractedAfterName, Term, OpenSquare}
+use Rattle.prd_reader.specs.declared.want.Want.TheVariants.{CloseSquare, Arrow, Close}
+use Rattle.prd_reader.specs.Following.{next, followed, term_next, target_tail_next, retracted_tail_next, action_next}
+use Rattle.prd_reader.specs.Following.{decl_next}
+use Rattle.prd_reader.specs.Trees.{NameTree, const_of_name, TermTree, constant, TargetTree, target_member}
+use Rattle.prd_reader.specs.Trees.{target_frame, target_atom, ActionTree, assert, retract, retract_slot}
+use Rattle.prd_reader.specs.Trees.{retract_object, modify, ActionTrees, last_action, actions, BlockTree, acts}
+use Rattle.prd_reader.specs.Trees.{new_object, slot_value}
 use Rattle.prd_reader.proofs.ComingSpelling.{put_name, put_term}
 use Rattle.prd_reader.proofs.ComingRuleSpelling.{put_target, put_action, put_actions, put_block}
-use Rattle.prd_reader.proofs.ComingPieces.{TargetLeft, class_left, frame_left, put_target_left, TargetNameLeft, target_atom_left, target_left, put_target_name_left, RetractedTree, retracted_target, retracted_slot, retracted_object, put_retracted, RetractedLeft, object_left, slot_left, retracted_left, put_retracted_left, RetractedNameLeft, retracted_atom_left, retracted_other_left, put_retracted_name_left, ActionsLeft, no_actions, some_actions, put_actions_left, new_left, value_left, DeclTree, declared, put_decl, Pieces, put_all, Builds, Joins, JoinsName, with_others, as_other}
+use Rattle.prd_reader.proofs.ComingPieces.{TargetLeft, class_left, frame_left, put_target_left, TargetNameLeft}
+use Rattle.prd_reader.proofs.ComingPieces.{target_atom_left, target_left, put_target_name_left, RetractedTree}
+use Rattle.prd_reader.proofs.ComingPieces.{retracted_target, retracted_slot, retracted_object, put_retracted}
+use Rattle.prd_reader.proofs.ComingPieces.{RetractedLeft, object_left, slot_left, retracted_left, put_retracted_left}
+use Rattle.prd_reader.proofs.ComingPieces.{RetractedNameLeft, retracted_atom_left, retracted_other_left}
+use Rattle.prd_reader.proofs.ComingPieces.{put_retracted_name_left, ActionsLeft, no_actions, some_actions}
+use Rattle.prd_reader.proofs.ComingPieces.{put_actions_left, new_left, value_left, DeclTree, declared, put_decl}
+use Rattle.prd_reader.proofs.ComingPieces.{Pieces, put_all, Builds, Joins, JoinsName, with_others, as_other}
 use Rattle.prd_reader.proofs.ComingTermLemmas.{term_begins, named_begins, one_more_pair, put_one_more_pair}
 
 -- targets

@@ -3,17 +3,35 @@ use Rattle.std.proofs.Common.{◌≡◌, List, [], ◌∷◌, Some, None, refl, 
 use Rattle.std.specs.declared.option.Option.{Option}
 use Rattle.prd_reader.specs.declared.leaf.Keyword.TheVariants.{Document as DocumentKey, Prefix, Group}
 use Rattle.prd_reader.specs.declared.leaf.Leaf.{Leaf}
-use Rattle.prd_reader.specs.declared.leaf.Leaf.TheVariants.{Key, Int, Iri, Curie, Open as OpenLeaf, Close as CloseLeaf}
+use Rattle.prd_reader.specs.declared.leaf.Leaf.TheVariants.{Key, Int, Iri, Curie, Open as OpenLeaf}
+use Rattle.prd_reader.specs.declared.leaf.Leaf.TheVariants.{Close as CloseLeaf}
 use Rattle.prd_reader.specs.declared.want.Want.{Want}
-use Rattle.prd_reader.specs.declared.want.Want.TheVariants.{Document, Prefixes, PrefixName, PrefixIri, GroupHead, GroupPriority, Members, Rule, Variable, ForallRest, SuchRest, SuchBracket, Block, Actions, DeclVariable, DeclRest, SameVariable, Target, TargetTail, TargetAfterName, Retracted, RetractedTail, RetractedAfterName, Formula, Formulas, ExistsRest, BuiltinOfFormula, Tail, AfterName, Term, Terms, FuncName, Pairs, TypeName, Open, Close, OpenSquare, CloseSquare, Arrow, Carets, That, Then, Do}
+use Rattle.prd_reader.specs.declared.want.Want.TheVariants.{Document, Prefixes, PrefixName, PrefixIri, GroupHead}
+use Rattle.prd_reader.specs.declared.want.Want.TheVariants.{GroupPriority, Members, Rule, Variable, ForallRest}
+use Rattle.prd_reader.specs.declared.want.Want.TheVariants.{SuchRest, SuchBracket, Block, Actions, DeclVariable}
+use Rattle.prd_reader.specs.declared.want.Want.TheVariants.{DeclRest, SameVariable, Target, TargetTail}
+use Rattle.prd_reader.specs.declared.want.Want.TheVariants.{TargetAfterName, Retracted, RetractedTail}
+use Rattle.prd_reader.specs.declared.want.Want.TheVariants.{RetractedAfterName, Formula, Formulas, ExistsRest}
+use Rattle.prd_reader.specs.declared.want.Want.TheVariants.{BuiltinOfFormula, Tail, AfterName, Term, Terms, FuncName}
+use Rattle.prd_reader.specs.declared.want.Want.TheVariants.{Pairs, TypeName, Open, Close, OpenSquare, CloseSquare}
+use Rattle.prd_reader.specs.declared.want.Want.TheVariants.{Arrow, Carets, That, Then, Do}
 use Rattle.prd_reader.specs.Following.{next, followed, rule_next, after, at_first}
 use Rattle.prd_reader.specs.Refusals.{IsDocument}
-use Rattle.prd_reader.specs.Trees.{StrategyTree, strategy_iri, strategy_curie, no_strategy, no_priority, priority, GroupTree, group, no_members, rule_member, group_member, no_group, one_group, prefix, document}
+use Rattle.prd_reader.specs.Trees.{StrategyTree, strategy_iri, strategy_curie, no_strategy, no_priority, priority}
+use Rattle.prd_reader.specs.Trees.{GroupTree, group, no_members, rule_member, group_member, no_group, one_group}
+use Rattle.prd_reader.specs.Trees.{prefix, document}
 use Rattle.prd_reader.proofs.ComingRuleSpelling.{put_strategy, put_group, put_document_alone}
-use Rattle.prd_reader.proofs.ComingPieces.{PriorityLeft, priority_left, put_priority_left, Pieces, put_all, Builds, Joins, with_others}
-use Rattle.prd_reader.proofs.ComingTermLemmas.{open_begins, close_begins, open_square_begins, close_square_begins, arrow_begins, carets_begin, that_begins, then_begins, do_begins, type_begins, prefix_name_begins, prefix_iri_begins, variable_begins, same_begins, func_begins, term_begins, terms_begin, pairs_begin}
-use Rattle.prd_reader.proofs.ComingFormulaLemmas.{tail_begins, after_name_begins, builtin_begins, exists_begins, formula_begins, formulas_begin}
-use Rattle.prd_reader.proofs.ComingActionLemmas.{target_tail_begins, target_after_name_begins, target_begins, retracted_tail_begins, retracted_after_name_begins, retracted_begins, actions_begin, decl_rest_begins, decl_begins, block_begins}
+use Rattle.prd_reader.proofs.ComingPieces.{PriorityLeft, priority_left, put_priority_left, Pieces, put_all, Builds}
+use Rattle.prd_reader.proofs.ComingPieces.{Joins, with_others}
+use Rattle.prd_reader.proofs.ComingTermLemmas.{open_begins, close_begins, open_square_begins, close_square_begins}
+use Rattle.prd_reader.proofs.ComingTermLemmas.{arrow_begins, carets_begin, that_begins, then_begins, do_begins}
+use Rattle.prd_reader.proofs.ComingTermLemmas.{type_begins, prefix_name_begins, prefix_iri_begins, variable_begins}
+use Rattle.prd_reader.proofs.ComingTermLemmas.{same_begins, func_begins, term_begins, terms_begin, pairs_begin}
+use Rattle.prd_reader.proofs.ComingFormulaLemmas.{tail_begins, after_name_begins, builtin_begins, exists_begins}
+use Rattle.prd_reader.proofs.ComingFormulaLemmas.{formula_begins, formulas_begin}
+use Rattle.prd_reader.proofs.ComingActionLemmas.{target_tail_begins, target_after_name_begins, target_begins}
+use Rattle.prd_reader.proofs.ComingActionLemmas.{retracted_tail_begins, retracted_after_name_begins, retracted_begins}
+use Rattle.prd_reader.proofs.ComingActionLemmas.{actions_begin, decl_rest_begins, decl_begins, block_begins}
 use Rattle.prd_reader.proofs.ComingRuleLemmas.{such_begins, forall_begins, rule_begins, bracket_begins}
 
 -- groups

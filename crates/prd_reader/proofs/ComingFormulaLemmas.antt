@@ -5,12 +5,23 @@ use Rattle.prd_reader.specs.declared.leaf.Builtin.TheVariants.{Func as FuncBuilt
 use Rattle.prd_reader.specs.declared.leaf.BuiltinName.TheVariants.{Known, Unknown, Undeclared}
 use Rattle.prd_reader.specs.declared.leaf.Literal.TheVariants.{Iri as IriLiteral, Local as LocalLiteral}
 use Rattle.prd_reader.specs.declared.leaf.Leaf.{Leaf}
-use Rattle.prd_reader.specs.declared.leaf.Leaf.TheVariants.{Key, Int, Str, Typed, Iri, Curie, Builtin, Local, Var, Open as OpenLeaf, Close as CloseLeaf, OpenSquare as OpenSquareLeaf, Equal, Hash}
-use Rattle.prd_reader.specs.declared.want.Want.TheVariants.{Formula, Formulas, ExistsRest, BuiltinOfFormula, Tail, AfterName}
+use Rattle.prd_reader.specs.declared.leaf.Leaf.TheVariants.{Key, Int, Str, Typed, Iri, Curie, Builtin, Local, Var}
+use Rattle.prd_reader.specs.declared.leaf.Leaf.TheVariants.{Open as OpenLeaf, Close as CloseLeaf}
+use Rattle.prd_reader.specs.declared.leaf.Leaf.TheVariants.{OpenSquare as OpenSquareLeaf, Equal, Hash}
+use Rattle.prd_reader.specs.declared.want.Want.TheVariants.{Formula, Formulas, ExistsRest, BuiltinOfFormula, Tail}
+use Rattle.prd_reader.specs.declared.want.Want.TheVariants.{AfterName}
 use Rattle.prd_reader.specs.Following.{next, formula_next, builtin_next, tail_next}
-use Rattle.prd_reader.specs.Trees.{const_int, const_string, const_typed, const_true, const_false, NameTree, const_of_name, name_iri, name_curie, name_local, name_typed_iri, name_typed_local, equals, member_of, with_pairs, Vars, one_var, more_vars, spelled_not, spelled_ineg, first_constant, first_variable, first_call, pred_known, pred_unknown, pred_undeclared, FormulaTree, conj, disj, neg, some, grouped, holds, compared, atom, no_formulas, formulas}
+use Rattle.prd_reader.specs.Trees.{const_int, const_string, const_typed, const_true, const_false, NameTree}
+use Rattle.prd_reader.specs.Trees.{const_of_name, name_iri, name_curie, name_local, name_typed_iri, name_typed_local}
+use Rattle.prd_reader.specs.Trees.{equals, member_of, with_pairs, Vars, one_var, more_vars, spelled_not, spelled_ineg}
+use Rattle.prd_reader.specs.Trees.{first_constant, first_variable, first_call, pred_known, pred_unknown}
+use Rattle.prd_reader.specs.Trees.{pred_undeclared, FormulaTree, conj, disj, neg, some, grouped, holds, compared}
+use Rattle.prd_reader.specs.Trees.{atom, no_formulas, formulas}
 use Rattle.prd_reader.proofs.ComingSpelling.{put_name, put_vars, put_formula}
-use Rattle.prd_reader.proofs.ComingPieces.{NameLeft, atom_left, tail_left, put_name_left, BuiltinLeft, pred_left, func_left, put_builtin_left, VarsLeft, no_vars, some_vars, put_vars_left, ExistsLeft, exists_left, put_exists_left, Builds, Joins, JoinsName, with_others, as_other}
+use Rattle.prd_reader.proofs.ComingPieces.{NameLeft, atom_left, tail_left, put_name_left, BuiltinLeft, pred_left}
+use Rattle.prd_reader.proofs.ComingPieces.{func_left, put_builtin_left, VarsLeft, no_vars, some_vars, put_vars_left}
+use Rattle.prd_reader.proofs.ComingPieces.{ExistsLeft, exists_left, put_exists_left, Builds, Joins, JoinsName}
+use Rattle.prd_reader.proofs.ComingPieces.{with_others, as_other}
 use Rattle.prd_reader.proofs.ComingTermLemmas.{one_more_pair, put_one_more_pair}
 
 -- the rest behind a first term

@@ -5,18 +5,36 @@
 --     Builds more w l    what a leaf leads to, behind this leaf, is a want's piece
 use Rattle.std.proofs.Common.{◌≡◌, ℕ, Bool, List, [], ◌∷◌, ◌++◌, Some, None, refl, ap, ◌∙◌}
 use Rattle.std.specs.declared.option.Option.{Option}
-use Rattle.prd_reader.specs.declared.leaf.Keyword.TheVariants.{Such, That as ThatKey, Then as ThenKey, Do as DoKey, New}
+use Rattle.prd_reader.specs.declared.leaf.Keyword.TheVariants.{Such, That as ThatKey, Then as ThenKey, Do as DoKey}
+use Rattle.prd_reader.specs.declared.leaf.Keyword.TheVariants.{New}
 use Rattle.prd_reader.specs.declared.leaf.Builtin.TheVariants.{Func as FuncBuiltin}
 use Rattle.prd_reader.specs.declared.leaf.BuiltinName.TheVariants.{Known}
 use Rattle.prd_reader.specs.declared.leaf.Leaf.{Leaf}
-use Rattle.prd_reader.specs.declared.leaf.Leaf.TheVariants.{Key, Word, TypeName as TypeLeaf, Iri, Builtin, Var, Open as OpenLeaf, Close as CloseLeaf, OpenSquare as OpenSquareLeaf, CloseSquare as CloseSquareLeaf, Hash, Arrow as ArrowLeaf, Carets as CaretsLeaf}
+use Rattle.prd_reader.specs.declared.leaf.Leaf.TheVariants.{Key, Word, TypeName as TypeLeaf, Iri, Builtin, Var}
+use Rattle.prd_reader.specs.declared.leaf.Leaf.TheVariants.{Open as OpenLeaf, Close as CloseLeaf}
+use Rattle.prd_reader.specs.declared.leaf.Leaf.TheVariants.{OpenSquare as OpenSquareLeaf}
+use Rattle.prd_reader.specs.declared.leaf.Leaf.TheVariants.{CloseSquare as CloseSquareLeaf, Hash, Arrow as ArrowLeaf}
+use Rattle.prd_reader.specs.declared.leaf.Leaf.TheVariants.{Carets as CaretsLeaf}
 use Rattle.prd_reader.specs.declared.want.Want.{Want}
-use Rattle.prd_reader.specs.declared.want.Want.TheVariants.{Document, Prefixes, PrefixName, PrefixIri, GroupHead, GroupPriority, Members, Rule, Variable, ForallRest, SuchRest, SuchBracket, Block, Actions, DeclVariable, DeclRest, SameVariable, Target, TargetTail, TargetAfterName, Retracted, RetractedTail, RetractedAfterName, Formula, Formulas, ExistsRest, BuiltinOfFormula, Tail, AfterName, Term, Terms, FuncName, Pairs, TypeName, Open, Close, OpenSquare, CloseSquare, Arrow, Carets, That, Then, Do}
+use Rattle.prd_reader.specs.declared.want.Want.TheVariants.{Document, Prefixes, PrefixName, PrefixIri, GroupHead}
+use Rattle.prd_reader.specs.declared.want.Want.TheVariants.{GroupPriority, Members, Rule, Variable, ForallRest}
+use Rattle.prd_reader.specs.declared.want.Want.TheVariants.{SuchRest, SuchBracket, Block, Actions, DeclVariable}
+use Rattle.prd_reader.specs.declared.want.Want.TheVariants.{DeclRest, SameVariable, Target, TargetTail}
+use Rattle.prd_reader.specs.declared.want.Want.TheVariants.{TargetAfterName, Retracted, RetractedTail}
+use Rattle.prd_reader.specs.declared.want.Want.TheVariants.{RetractedAfterName, Formula, Formulas, ExistsRest}
+use Rattle.prd_reader.specs.declared.want.Want.TheVariants.{BuiltinOfFormula, Tail, AfterName, Term, Terms, FuncName}
+use Rattle.prd_reader.specs.declared.want.Want.TheVariants.{Pairs, TypeName, Open, Close, OpenSquare, CloseSquare}
+use Rattle.prd_reader.specs.declared.want.Want.TheVariants.{Arrow, Carets, That, Then, Do}
 use Rattle.rif_terms.specs.declared.builtin.Func.{Func}
 use Rattle.prd_reader.specs.Following.{followed}
-use Rattle.prd_reader.specs.Trees.{NameTree, TermTree, TermTrees, FuncTree, func_leaf, PairTrees, Tail as TailTree, Vars, PredTree, pred_leaf, FormulaTree, FormulaTrees, TargetTree, ActionTrees, BlockTree, SuchTrees, RuleTree, PriorityTree, GroupTree, MemberTrees, PrefixTrees, DocumentTree}
-use Rattle.prd_reader.proofs.ComingSpelling.{put_name, put_term, put_terms, put_pairs, put_tail, put_vars, put_formula, put_formulas}
-use Rattle.prd_reader.proofs.ComingRuleSpelling.{put_target, put_actions, put_block, put_such, put_rule, put_priority, put_group, put_members, put_prefixes, put_document}
+use Rattle.prd_reader.specs.Trees.{NameTree, TermTree, TermTrees, FuncTree, func_leaf, PairTrees, Tail as TailTree}
+use Rattle.prd_reader.specs.Trees.{Vars, PredTree, pred_leaf, FormulaTree, FormulaTrees, TargetTree, ActionTrees}
+use Rattle.prd_reader.specs.Trees.{BlockTree, SuchTrees, RuleTree, PriorityTree, GroupTree, MemberTrees, PrefixTrees}
+use Rattle.prd_reader.specs.Trees.{DocumentTree}
+use Rattle.prd_reader.proofs.ComingSpelling.{put_name, put_term, put_terms, put_pairs, put_tail, put_vars}
+use Rattle.prd_reader.proofs.ComingSpelling.{put_formula, put_formulas}
+use Rattle.prd_reader.proofs.ComingRuleSpelling.{put_target, put_actions, put_block, put_such, put_rule, put_priority}
+use Rattle.prd_reader.proofs.ComingRuleSpelling.{put_group, put_members, put_prefixes, put_document}
 
 -- Pair* ']'
 pub data PairsLeft : Type 0 where
@@ -290,7 +308,8 @@ JoinsName v w = (n : NameTree) (ws : List Want) (xs : Pieces (v ∷ ws)) →
 
 -- some wants, others and all behind them, in two groups of one kind or the other
 regrouped : (more others ws : List Want) (xs : Pieces ((more ++ others) ++ ws)) →
-    (ys : Pieces (more ++ (others ++ ws))) × (put_all (more ++ (others ++ ws)) ys ≡ put_all ((more ++ others) ++ ws) xs)
+    (ys : Pieces (more ++ (others ++ ws)))
+    × (put_all (more ++ (others ++ ws)) ys ≡ put_all ((more ++ others) ++ ws) xs)
 regrouped [] others ws xs = (xs, refl)
 regrouped (w ∷ more) others ws xs =
     let behind = regrouped more others ws xs.1 in ((xs.0, behind.0), ap (λ r. put_piece w xs.0 r) behind.1)

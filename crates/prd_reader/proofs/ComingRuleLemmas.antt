@@ -5,10 +5,14 @@ use Rattle.prd_reader.specs.declared.leaf.Leaf.{Leaf}
 use Rattle.prd_reader.specs.declared.leaf.Leaf.TheVariants.{Key, Var, Open as OpenLeaf}
 use Rattle.prd_reader.specs.declared.want.Want.TheVariants.{Rule, ForallRest, SuchRest, SuchBracket, Formula, Close}
 use Rattle.prd_reader.specs.Following.{next, followed, formula_next, rule_next, such_next}
-use Rattle.prd_reader.specs.Trees.{FormulaTree, grouped, last_such, more_such, RuleTree, for_all, for_all_such, if_then, block}
+use Rattle.prd_reader.specs.Trees.{FormulaTree, grouped, last_such, more_such, RuleTree, for_all, for_all_such}
+use Rattle.prd_reader.specs.Trees.{if_then, block}
 use Rattle.prd_reader.proofs.ComingSpelling.{put_formula}
 use Rattle.prd_reader.proofs.ComingRuleSpelling.{put_rule}
-use Rattle.prd_reader.proofs.ComingPieces.{no_vars, some_vars, SuchLeft, inner_left, such_left, put_such_left, BracketLeft, rule_in_bracket, formula_in_bracket, put_bracket_left, ForallLeft, forall_left, forall_such_left, put_forall_left, Builds, Joins, with_others}
+use Rattle.prd_reader.proofs.ComingPieces.{no_vars, some_vars, SuchLeft, inner_left, such_left, put_such_left}
+use Rattle.prd_reader.proofs.ComingPieces.{BracketLeft, rule_in_bracket, formula_in_bracket, put_bracket_left}
+use Rattle.prd_reader.proofs.ComingPieces.{ForallLeft, forall_left, forall_such_left, put_forall_left, Builds, Joins}
+use Rattle.prd_reader.proofs.ComingPieces.{with_others}
 use Rattle.prd_reader.proofs.ComingFormulaLemmas.{formula_begins, all_vars, put_all_vars}
 
 -- the formulas of `such that`

@@ -1,11 +1,24 @@
 -- The leaves of a tree and others behind them, as one list that is built from its end: actions, rules and documents.
 use Rattle.std.proofs.Common.{◌≡◌, List, [], ◌∷◌, ◌++◌, refl, ap, ◌∙◌, append-nil}
-use Rattle.prd_reader.specs.declared.leaf.Keyword.TheVariants.{Document, Prefix, Group, Forall, Such, That, If, Then, Do, New, Assert, Retract, Modify}
+use Rattle.prd_reader.specs.declared.leaf.Keyword.TheVariants.{Document, Prefix, Group, Forall, Such, That, If, Then}
+use Rattle.prd_reader.specs.declared.leaf.Keyword.TheVariants.{Do, New, Assert, Retract, Modify}
 use Rattle.prd_reader.specs.declared.leaf.Leaf.{Leaf}
-use Rattle.prd_reader.specs.declared.leaf.Leaf.TheVariants.{Key, Word, Int, Iri, Curie, Var, Open, Close, OpenSquare, CloseSquare, Hash, Arrow}
-use Rattle.prd_reader.specs.Trees.{spell_term, spell_pairs, spell_vars, spell_formula, TargetTree, target_member, target_frame, target_atom, spell_target, ActionTree, assert, retract, retract_slot, retract_object, modify, spell_action, ActionTrees, last_action, actions, spell_actions, BlockTree, acts, new_object, slot_value, spell_block, SuchTrees, last_such, more_such, spell_such, RuleTree, for_all, for_all_such, if_then, block, spell_rule}
-use Rattle.prd_reader.specs.Trees.{StrategyTree, no_strategy, strategy_iri, strategy_curie, spell_strategy, PriorityTree, no_priority, priority, spell_priority, GroupTree, group, MemberTrees, no_members, rule_member, group_member, spell_group, spell_members, PrefixTrees, no_group, one_group, prefix, spell_prefixes, DocumentTree, document, spell_document}
-use Rattle.prd_reader.proofs.ComingSpelling.{two_put, closed_put, put_name, put_term, put_terms, put_term_is, put_pairs, put_pairs_is, put_vars, put_vars_is, put_formula, put_formula_is, put_atom_is}
+use Rattle.prd_reader.specs.declared.leaf.Leaf.TheVariants.{Key, Word, Int, Iri, Curie, Var, Open, Close, OpenSquare}
+use Rattle.prd_reader.specs.declared.leaf.Leaf.TheVariants.{CloseSquare, Hash, Arrow}
+use Rattle.prd_reader.specs.Trees.{spell_term, spell_pairs, spell_vars, spell_formula, TargetTree, target_member}
+use Rattle.prd_reader.specs.Trees.{target_frame, target_atom, spell_target, ActionTree, assert, retract, retract_slot}
+use Rattle.prd_reader.specs.Trees.{retract_object, modify, spell_action, ActionTrees, last_action, actions}
+use Rattle.prd_reader.specs.Trees.{spell_actions, BlockTree, acts, new_object, slot_value, spell_block, SuchTrees}
+use Rattle.prd_reader.specs.Trees.{last_such, more_such, spell_such, RuleTree, for_all, for_all_such, if_then, block}
+use Rattle.prd_reader.specs.Trees.{spell_rule}
+use Rattle.prd_reader.specs.Trees.{StrategyTree, no_strategy, strategy_iri, strategy_curie, spell_strategy}
+use Rattle.prd_reader.specs.Trees.{PriorityTree, no_priority, priority, spell_priority, GroupTree, group, MemberTrees}
+use Rattle.prd_reader.specs.Trees.{no_members, rule_member, group_member, spell_group, spell_members, PrefixTrees}
+use Rattle.prd_reader.specs.Trees.{no_group, one_group, prefix, spell_prefixes, DocumentTree, document}
+use Rattle.prd_reader.specs.Trees.{spell_document}
+use Rattle.prd_reader.proofs.ComingSpelling.{two_put, closed_put, put_name, put_term, put_terms, put_term_is}
+use Rattle.prd_reader.proofs.ComingSpelling.{put_pairs, put_pairs_is, put_vars, put_vars_is, put_formula}
+use Rattle.prd_reader.proofs.ComingSpelling.{put_formula_is, put_atom_is}
 
 -- actions
 

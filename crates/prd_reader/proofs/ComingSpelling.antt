@@ -3,9 +3,17 @@
 use Rattle.std.proofs.Common.{◌≡◌, List, [], ◌∷◌, ◌++◌, refl, ap, ◌∙◌, sym, append_assoc}
 use Rattle.prd_reader.specs.declared.leaf.Keyword.TheVariants.{And, Or, Exists, External, True, False}
 use Rattle.prd_reader.specs.declared.leaf.Leaf.{Leaf}
-use Rattle.prd_reader.specs.declared.leaf.Leaf.TheVariants.{Key, Int, Str, Typed, TypeName, Iri, Curie, Local, Var, Open, Close, OpenSquare, CloseSquare, Equal, Hash, Arrow, Carets}
-use Rattle.prd_reader.specs.Trees.{ConstTree, const_int, const_string, const_typed, const_iri, const_curie, const_local, const_true, const_false, spell_const, NameTree, const_of_name, spell_name, func_leaf, TermTree, constant, variable, call, TermTrees, no_terms, terms, spell_term, spell_terms, PairTrees, last_pair, pairs, spell_pairs, Tail, equals, member_of, with_pairs, spell_tail}
-use Rattle.prd_reader.specs.Trees.{Vars, one_var, more_vars, spell_vars, not_leaf, term_of_first, pred_leaf, FormulaTree, conj, disj, neg, some, grouped, holds, compared, atom, FormulaTrees, no_formulas, formulas, spell_formula, spell_formulas}
+use Rattle.prd_reader.specs.declared.leaf.Leaf.TheVariants.{Key, Int, Str, Typed, TypeName, Iri, Curie, Local, Var}
+use Rattle.prd_reader.specs.declared.leaf.Leaf.TheVariants.{Open, Close, OpenSquare, CloseSquare, Equal, Hash, Arrow}
+use Rattle.prd_reader.specs.declared.leaf.Leaf.TheVariants.{Carets}
+use Rattle.prd_reader.specs.Trees.{ConstTree, const_int, const_string, const_typed, const_iri, const_curie}
+use Rattle.prd_reader.specs.Trees.{const_local, const_true, const_false, spell_const, NameTree, const_of_name}
+use Rattle.prd_reader.specs.Trees.{spell_name, func_leaf, TermTree, constant, variable, call, TermTrees, no_terms}
+use Rattle.prd_reader.specs.Trees.{terms, spell_term, spell_terms, PairTrees, last_pair, pairs, spell_pairs, Tail}
+use Rattle.prd_reader.specs.Trees.{equals, member_of, with_pairs, spell_tail}
+use Rattle.prd_reader.specs.Trees.{Vars, one_var, more_vars, spell_vars, not_leaf, term_of_first, pred_leaf}
+use Rattle.prd_reader.specs.Trees.{FormulaTree, conj, disj, neg, some, grouped, holds, compared, atom, FormulaTrees}
+use Rattle.prd_reader.specs.Trees.{no_formulas, formulas, spell_formula, spell_formulas}
 
 -- what is put is two parts appended, where it begins with the first and has the second behind it
 pub two_put : (first second ls put rest : List Leaf) → put ≡ first ++ rest → rest ≡ second ++ ls →

@@ -1,18 +1,29 @@
 -- What each leaf begins where one leaf, a term or a list of terms has to come.
 use Rattle.std.proofs.Common.{◌≡◌, ℕ, Bool, true, false, cond, List, [], ◌∷◌, Some, None, refl, ap, sym, bytes_eq}
 use Rattle.std.proofs.lemmas.Slice.Eq.{bytes_eq-Decides}
-use Rattle.prd_reader.specs.declared.leaf.Keyword.TheVariants.{External, True, False, That as ThatKey, Then as ThenKey, Do as DoKey}
+use Rattle.prd_reader.specs.declared.leaf.Keyword.TheVariants.{External, True, False, That as ThatKey}
+use Rattle.prd_reader.specs.declared.leaf.Keyword.TheVariants.{Then as ThenKey, Do as DoKey}
 use Rattle.prd_reader.specs.declared.leaf.Builtin.TheVariants.{Func as FuncBuiltin}
 use Rattle.prd_reader.specs.declared.leaf.BuiltinName.TheVariants.{Known, Unknown, Undeclared}
 use Rattle.prd_reader.specs.declared.leaf.Literal.TheVariants.{Iri as IriLiteral, Local as LocalLiteral}
 use Rattle.prd_reader.specs.declared.leaf.Leaf.{Leaf}
-use Rattle.prd_reader.specs.declared.leaf.Leaf.TheVariants.{Key, Word, Int, Str, Typed, TypeName as TypeLeaf, Iri, Curie, Builtin, Local, Var, Open as OpenLeaf, Close as CloseLeaf, OpenSquare as OpenSquareLeaf, CloseSquare as CloseSquareLeaf, Arrow as ArrowLeaf, Carets as CaretsLeaf}
+use Rattle.prd_reader.specs.declared.leaf.Leaf.TheVariants.{Key, Word, Int, Str, Typed, TypeName as TypeLeaf, Iri}
+use Rattle.prd_reader.specs.declared.leaf.Leaf.TheVariants.{Curie, Builtin, Local, Var, Open as OpenLeaf}
+use Rattle.prd_reader.specs.declared.leaf.Leaf.TheVariants.{Close as CloseLeaf, OpenSquare as OpenSquareLeaf}
+use Rattle.prd_reader.specs.declared.leaf.Leaf.TheVariants.{CloseSquare as CloseSquareLeaf, Arrow as ArrowLeaf}
+use Rattle.prd_reader.specs.declared.leaf.Leaf.TheVariants.{Carets as CaretsLeaf}
 use Rattle.prd_reader.specs.declared.want.Want.{Want}
-use Rattle.prd_reader.specs.declared.want.Want.TheVariants.{PrefixName, PrefixIri, Variable, SameVariable, Term, Terms, FuncName, Pairs, TypeName, Open, Close, OpenSquare, CloseSquare, Arrow, Carets, That, Then, Do}
+use Rattle.prd_reader.specs.declared.want.Want.TheVariants.{PrefixName, PrefixIri, Variable, SameVariable, Term}
+use Rattle.prd_reader.specs.declared.want.Want.TheVariants.{Terms, FuncName, Pairs, TypeName, Open, Close, OpenSquare}
+use Rattle.prd_reader.specs.declared.want.Want.TheVariants.{CloseSquare, Arrow, Carets, That, Then, Do}
 use Rattle.prd_reader.specs.Following.{next, term_next, named_next, func_next, same_next}
-use Rattle.prd_reader.specs.Trees.{const_int, const_string, const_typed, const_iri, const_curie, const_local, const_true, const_false, name_iri, name_curie, name_local, name_typed_iri, name_typed_local, func_known, func_unknown, func_undeclared, TermTree, constant, variable, call, no_terms, terms, PairTrees, last_pair, pairs}
+use Rattle.prd_reader.specs.Trees.{const_int, const_string, const_typed, const_iri, const_curie, const_local}
+use Rattle.prd_reader.specs.Trees.{const_true, const_false, name_iri, name_curie, name_local, name_typed_iri}
+use Rattle.prd_reader.specs.Trees.{name_typed_local, func_known, func_unknown, func_undeclared, TermTree, constant}
+use Rattle.prd_reader.specs.Trees.{variable, call, no_terms, terms, PairTrees, last_pair, pairs}
 use Rattle.prd_reader.proofs.ComingSpelling.{put_term, put_pairs}
-use Rattle.prd_reader.proofs.ComingPieces.{PairsLeft, no_pairs, some_pairs, put_pairs_left, put_all, Builds, Joins, JoinsName, with_others}
+use Rattle.prd_reader.proofs.ComingPieces.{PairsLeft, no_pairs, some_pairs, put_pairs_left, put_all, Builds, Joins}
+use Rattle.prd_reader.proofs.ComingPieces.{JoinsName, with_others}
 
 -- one leaf
 

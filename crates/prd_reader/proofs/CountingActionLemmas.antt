@@ -2,7 +2,11 @@
 use Rattle.std.proofs.Common.{◌≡◌, ℕ, suc, List, [], ◌∷◌, ◌++◌, ◌∙◌}
 use Rattle.prd_reader.specs.declared.leaf.Leaf.{Leaf}
 use Rattle.prd_reader.specs.declared.leaf.Leaf.TheVariants.{Var, Open, Close, OpenSquare, CloseSquare, Hash, Arrow}
-use Rattle.prd_reader.specs.Trees.{const_of_name, spell_const, spell_term, spell_terms, spell_pairs, TargetTree, target_member, target_frame, target_atom, spell_target, ActionTree, assert, retract, retract_slot, retract_object, modify, spell_action, ActionTrees, last_action, actions, spell_actions, BlockTree, acts, new_object, slot_value, spell_block}
+use Rattle.prd_reader.specs.Trees.{const_of_name, spell_const, spell_term, spell_terms, spell_pairs, TargetTree}
+use Rattle.prd_reader.specs.Trees.{target_member, target_frame, target_atom, spell_target, ActionTree, assert}
+use Rattle.prd_reader.specs.Trees.{retract, retract_slot, retract_object, modify, spell_action, ActionTrees}
+use Rattle.prd_reader.specs.Trees.{last_action, actions, spell_actions, BlockTree, acts, new_object, slot_value}
+use Rattle.prd_reader.specs.Trees.{spell_block}
 use Rattle.prd_reader.proofs.CountingFolds.{course}
 use Rattle.prd_reader.proofs.CountingTermLemmas.{apart, const_course, term_course, terms_course, pairs_course}
 

@@ -1,18 +1,21 @@
 -- What the fold over a document's leaves tells of its value.
-use Rattle.std.proofs.Common.{◌≡◌, ℕ, suc, Bool, true, false, List, [], ◌∷◌, ◌++◌, refl, ap, ◌∙◌, sym, subst, arith, length, map, Some, None, if◌then◌else◌}
+use Rattle.std.proofs.Common.{◌≡◌, ℕ, suc, Bool, true, false, List, [], ◌∷◌, ◌++◌, refl, ap, ◌∙◌, sym, subst, arith}
+use Rattle.std.proofs.Common.{length, map, Some, None, if◌then◌else◌}
 use Rattle.std.proofs.lemmas.List.{map-append}
 use Rattle.std.specs.declared.option.Option.{Option}
 use Rattle.rif_terms.specs.declared.rule.Rule.{Rule}
 use Rattle.prd_reader.specs.declared.leaf.Leaf.{Leaf}
 use Rattle.prd_reader.specs.declared.progress.Bracket.{Bracket}
 use Rattle.prd_reader.specs.Limits.{CountsAreOfTrees, KeepsLimits, KeepRuleLimits}
-use Rattle.prd_reader.specs.Progress.{progress_from, Counts, Progress, at_start, progress_with, rule_at, ends_rule, names_read}
+use Rattle.prd_reader.specs.Progress.{progress_from, Counts, Progress, at_start, progress_with, rule_at, ends_rule}
+use Rattle.prd_reader.specs.Progress.{names_read}
 use Rattle.prd_reader.specs.Refusals.{IsClear}
 use Rattle.prd_reader.specs.Trees.{DocumentTree, spell_document}
 use Rattle.prd_reader.specs.Values.{document_value}
 use Rattle.prd_reader.proofs.CountingFoldLemmas.{Tally, tally_of, tally_ended, tallies}
 use Rattle.prd_reader.proofs.CountingGroupLemmas.{rule_tally, document_leads}
-use Rattle.prd_reader.proofs.CountingLimitLemmas.{Keeps, KeepTallies, clear_from, tallies_keep, keeps_from, open_rules, rules_counted}
+use Rattle.prd_reader.proofs.CountingLimitLemmas.{Keeps, KeepTallies, clear_from, tallies_keep, keeps_from}
+use Rattle.prd_reader.proofs.CountingLimitLemmas.{open_rules, rules_counted}
 use Rattle.prd_reader.proofs.CountingPriorityLemmas.{AreInRange, document_in_range}
 
 abbrev names_of : Tally → List (List ℕ)
@@ -25,7 +28,8 @@ ended_names : (now : Option Counts) (bs : List Bracket) (l : Leaf) →
 ended_names None bs l = refl
 ended_names (Some c) bs l = one (ends_rule bs c l) c
   where
-    one : (b : Bool) (c : Counts) → (if b then c.names ∷ [] else []) ≡ map names_of (if b then tally_of c ∷ [] else [])
+    one : (b : Bool) (c : Counts) →
+        (if b then c.names ∷ [] else []) ≡ map names_of (if b then tally_of c ∷ [] else [])
     one true c = refl
     one false c = refl
 

@@ -1,12 +1,15 @@
 -- What the fold over a rule's leaves has counted where the rule ends.
-use Rattle.std.proofs.Common.{◌≡◌, ◌+◌, ℕ, suc, zero, Bool, true, false, List, [], ◌∷◌, ◌++◌, refl, ap, ◌∙◌, sym, subst, arith, length, Some, None, if◌then◌else◌, eq-eqb, ne_eqb}
+use Rattle.std.proofs.Common.{◌≡◌, ◌+◌, ℕ, suc, zero, Bool, true, false, List, [], ◌∷◌, ◌++◌, refl, ap, ◌∙◌, sym}
+use Rattle.std.proofs.Common.{subst, arith, length, Some, None, if◌then◌else◌, eq-eqb, ne_eqb}
 use Rattle.std.specs.declared.option.Option.{Option}
 use Rattle.prd_reader.specs.declared.leaf.Keyword.TheVariants.{Do, Assert, Retract, Modify}
 use Rattle.prd_reader.specs.declared.leaf.Leaf.{Leaf}
 use Rattle.prd_reader.specs.declared.leaf.Leaf.TheVariants.{Key, Var, Open, Close, OpenSquare, CloseSquare}
 use Rattle.prd_reader.specs.declared.progress.Bracket.{Bracket}
 use Rattle.prd_reader.specs.declared.progress.Bracket.TheVariants.{Plain, Arguments}
-use Rattle.prd_reader.specs.Progress.{Counts, Progress, progress_with, progress_from, rule_at, ends_rule, closed, with_argument, takes_term, is_term, opened, brackets_with, head_with, named_with, is_sign_of_pattern}
+use Rattle.prd_reader.specs.Progress.{Counts, Progress, progress_with, progress_from, rule_at, ends_rule, closed}
+use Rattle.prd_reader.specs.Progress.{with_argument, takes_term, is_term, opened, brackets_with, head_with}
+use Rattle.prd_reader.specs.Progress.{named_with, is_sign_of_pattern}
 use Rattle.prd_reader.specs.Values.{names_with, names_from}
 use Rattle.prd_reader.proofs.CountingFolds.{course, meets, falls, signs}
 
@@ -83,7 +86,8 @@ close_inner bs last h m r k n a d names ls t e x =
     let goes = ne_eqb (length (closed bs)) k (λ same. omega (arith, same, length_closed bs (suc (k + d)) e)) in
     record {
       reads = subst (λ (b : Bool).
-          (if b then tally names n a ∷ [] else []) ++ tallies (behind_close bs h r c b) ls ≡ t ∷ []) (sym goes) x.reads;
+          (if b then tally names n a ∷ [] else []) ++ tallies (behind_close bs h r c b) ls ≡ t ∷ [])
+          (sym goes) x.reads;
       none = subst (λ (b : Bool). (progress_from (behind_close bs h r c b) ls).rule ≡ None) (sym goes) x.none;
     }
 
@@ -100,7 +104,8 @@ block_ends (OpenSquare ∷ ls) bs last h m r k n a d x names e c =
     record { reads = g.reads; none = g.none }
 block_ends (Close ∷ []) bs last h m r k n a zero x names e c =
     let same : a ≡ x = cc in
-    subst (λ (y : ℕ). Ends (within bs last h m r (Some (counted k true names n a))) (Close ∷ []) (tally names n y)) same
+    subst (λ (y : ℕ). Ends (within bs last h m r (Some (counted k true names n a))) (Close ∷ [])
+    (tally names n y)) same
     (close_last bs last h m r k n a names (omega (arith, e)))
 block_ends (Close ∷ l ∷ ls) bs last h m r k n a zero x names e c = cc
 block_ends (Close ∷ ls) bs last h m r k n a (suc d) x names e c =
@@ -148,7 +153,8 @@ rule_ends (Open ∷ ls) more bs last h m r k n a d x e b names depth c f =
     (omega (arith, depth)) c f in
     record { reads = g.reads; none = g.none }
 rule_ends (OpenSquare ∷ ls) more bs last h m r k n a d x e b names depth c f =
-    let g = rule_ends ls more (Plain ∷ bs) OpenSquare h false r k n a (suc d) x e b names (omega (arith, depth)) c f in
+    let g = rule_ends ls more (Plain ∷ bs) OpenSquare h false r k n a (suc d) x e b names
+    (omega (arith, depth)) c f in
     record { reads = g.reads; none = g.none }
 rule_ends (Close ∷ ls) more bs last h m r k n a zero x e b names depth c f = cc
 rule_ends (Close ∷ ls) more bs last h m r k n a (suc d) x e b names depth c f =

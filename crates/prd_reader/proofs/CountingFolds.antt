@@ -6,7 +6,8 @@ use Rattle.std.specs.Prelude.{if◌then◌else◌}
 use Rattle.prd_reader.specs.declared.leaf.Keyword.TheVariants.{Do, Assert, Retract, Modify}
 use Rattle.prd_reader.specs.declared.leaf.Literal.TheVariants.{Iri as IriLiteral, Local as LocalLiteral}
 use Rattle.prd_reader.specs.declared.leaf.Leaf.{Leaf}
-use Rattle.prd_reader.specs.declared.leaf.Leaf.TheVariants.{Key, Typed, TypeName as TypeLeaf, Iri, Curie, Local, Open, Close, OpenSquare, CloseSquare, Carets}
+use Rattle.prd_reader.specs.declared.leaf.Leaf.TheVariants.{Key, Typed, TypeName as TypeLeaf, Iri, Curie, Local, Open}
+use Rattle.prd_reader.specs.declared.leaf.Leaf.TheVariants.{Close, OpenSquare, CloseSquare, Carets}
 use Rattle.prd_reader.specs.Progress.{takes_term, is_sign_of_pattern}
 
 pub data Course : Type 0 where

@@ -1,11 +1,22 @@
 -- Along a formula nothing but its patterns is counted.
 use Rattle.std.proofs.Common.{◌≡◌, ℕ, suc, Bool, true, false, List, [], ◌∷◌, ◌++◌, refl, ap, ◌∙◌}
-use Rattle.prd_reader.specs.declared.leaf.Literal.TheVariants.{Integer, Boolean, String, Iri as IriLiteral, Local as LocalLiteral, OfNoType}
+use Rattle.prd_reader.specs.declared.leaf.Literal.TheVariants.{Integer, Boolean, String, Iri as IriLiteral}
+use Rattle.prd_reader.specs.declared.leaf.Literal.TheVariants.{Local as LocalLiteral, OfNoType}
 use Rattle.prd_reader.specs.declared.leaf.Leaf.{Leaf}
 use Rattle.prd_reader.specs.declared.leaf.Leaf.TheVariants.{Open, Close}
-use Rattle.prd_reader.specs.Trees.{const_int, const_string, const_typed, const_iri, const_curie, const_local, const_true, const_false, NameTree, name_iri, name_curie, name_local, name_typed_iri, name_typed_local, const_of_name, spell_const, spell_term, spell_terms, TermTree, constant, variable, call, Tail, equals, member_of, with_pairs, spell_tail, Vars, one_var, more_vars, spell_vars, spelled_not, spelled_ineg, term_of_first, pred_known, pred_unknown, pred_undeclared, FormulaTree, conj, disj, neg, some, grouped, holds, compared, atom, FormulaTrees, no_formulas, formulas, spell_formula, spell_formulas, SuchTrees, last_such, more_such, spell_such}
+use Rattle.prd_reader.specs.Trees.{const_int, const_string, const_typed, const_iri, const_curie, const_local}
+use Rattle.prd_reader.specs.Trees.{const_true, const_false, NameTree, name_iri, name_curie, name_local}
+use Rattle.prd_reader.specs.Trees.{name_typed_iri, name_typed_local, const_of_name, spell_const, spell_term}
+use Rattle.prd_reader.specs.Trees.{spell_terms, TermTree, constant, variable, call, Tail, equals, member_of}
+use Rattle.prd_reader.specs.Trees.{with_pairs, spell_tail, Vars, one_var, more_vars, spell_vars, spelled_not}
+use Rattle.prd_reader.specs.Trees.{spelled_ineg, term_of_first, pred_known, pred_unknown, pred_undeclared}
+use Rattle.prd_reader.specs.Trees.{FormulaTree, conj, disj, neg, some, grouped, holds, compared, atom, FormulaTrees}
+use Rattle.prd_reader.specs.Trees.{no_formulas, formulas, spell_formula, spell_formulas, SuchTrees, last_such}
+use Rattle.prd_reader.specs.Trees.{more_such, spell_such}
 use Rattle.prd_reader.proofs.CountingFolds.{course, signs}
-use Rattle.prd_reader.proofs.CountingTermLemmas.{apart, in_turn, const_course, const_signs, const_named, term_course, term_signs, term_named, terms_course, terms_signs, pairs_course, pairs_signs, pairs_adds}
+use Rattle.prd_reader.proofs.CountingTermLemmas.{apart, in_turn, const_course, const_signs, const_named, term_course}
+use Rattle.prd_reader.proofs.CountingTermLemmas.{term_signs, term_named, terms_course, terms_signs, pairs_course}
+use Rattle.prd_reader.proofs.CountingTermLemmas.{pairs_signs, pairs_adds}
 
 pub tail_course : (t : Tail) (rest : List Leaf) (d a : ℕ) → course (spell_tail t ++ rest) d a ≡ course rest d a
 tail_course (equals t) rest d a = term_course t rest d a

@@ -1,5 +1,6 @@
 -- The rules that end along a group or a document are those of its value, one behind the other.
-use Rattle.std.proofs.Common.{◌≡◌, ◌+◌, ℕ, ℤ, pos, suc, Bool, false, List, [], ◌∷◌, ◌++◌, refl, ap, ◌∙◌, sym, subst, arith, length, map, Some, None, if◌then◌else◌, append-nil, append_assoc}
+use Rattle.std.proofs.Common.{◌≡◌, ◌+◌, ℕ, ℤ, pos, suc, Bool, false, List, [], ◌∷◌, ◌++◌, refl, ap, ◌∙◌, sym, subst}
+use Rattle.std.proofs.Common.{arith, length, map, Some, None, if◌then◌else◌, append-nil, append_assoc}
 use Rattle.std.proofs.lemmas.List.{map-append}
 use Rattle.std.specs.declared.option.Option.{Option}
 use Rattle.rif_terms.specs.declared.rule.Rule.{Rule}
@@ -8,11 +9,19 @@ use Rattle.prd_reader.specs.declared.leaf.Leaf.{Leaf}
 use Rattle.prd_reader.specs.declared.leaf.Leaf.TheVariants.{Key, Word, Int, Iri, Curie, Open, Close}
 use Rattle.prd_reader.specs.declared.progress.Bracket.{Bracket}
 use Rattle.prd_reader.specs.Limits.{level_patterns, condition_patterns}
-use Rattle.prd_reader.specs.Progress.{Counts, Progress, progress_with, progress_from, rule_at, ends_rule, counts_with, begins_rule, no_counts}
-use Rattle.prd_reader.specs.Trees.{RuleTree, for_all, for_all_such, if_then, block, spell_rule, spell_block, StrategyTree, no_strategy, strategy_iri, strategy_curie, spell_strategy, PriorityTree, no_priority, priority, spell_priority, GroupTree, group, MemberTrees, no_members, rule_member, group_member, spell_group, spell_members, PrefixTrees, no_group, one_group, prefix, spell_prefixes, DocumentTree, document, spell_document}
-use Rattle.prd_reader.specs.Values.{rule_names, rule_value, rule_block, priority_in, group_rules, member_rules, rules_behind, document_value}
+use Rattle.prd_reader.specs.Progress.{Counts, Progress, progress_with, progress_from, rule_at, ends_rule, counts_with}
+use Rattle.prd_reader.specs.Progress.{begins_rule, no_counts}
+use Rattle.prd_reader.specs.Trees.{RuleTree, for_all, for_all_such, if_then, block, spell_rule, spell_block}
+use Rattle.prd_reader.specs.Trees.{StrategyTree, no_strategy, strategy_iri, strategy_curie, spell_strategy}
+use Rattle.prd_reader.specs.Trees.{PriorityTree, no_priority, priority, spell_priority, GroupTree, group, MemberTrees}
+use Rattle.prd_reader.specs.Trees.{no_members, rule_member, group_member, spell_group, spell_members, PrefixTrees}
+use Rattle.prd_reader.specs.Trees.{no_group, one_group, prefix, spell_prefixes, DocumentTree, document}
+use Rattle.prd_reader.specs.Trees.{spell_document}
+use Rattle.prd_reader.specs.Values.{rule_names, rule_value, rule_block, priority_in, group_rules, member_rules}
+use Rattle.prd_reader.specs.Values.{rules_behind, document_value}
 use Rattle.prd_reader.proofs.CountingFolds.{course, meets, signs}
-use Rattle.prd_reader.proofs.CountingFoldLemmas.{Tally, tally, tally_of, tally_ended, tallies, counted, within, Ends, rule_ends}
+use Rattle.prd_reader.proofs.CountingFoldLemmas.{Tally, tally, tally_of, tally_ended, tallies, counted, within, Ends}
+use Rattle.prd_reader.proofs.CountingFoldLemmas.{rule_ends}
 use Rattle.prd_reader.proofs.CountingActionLemmas.{block_adds}
 use Rattle.prd_reader.proofs.CountingRuleLemmas.{rule_meets, rule_falls, rule_signs, behind, depth_in}
 use Rattle.prd_reader.proofs.CountingValueLemmas.{rule_count, block_count}
@@ -126,12 +135,14 @@ chain xs ys ts us first more p none =
       none = ap (λ (q : Progress). q.rule) (progress_apart xs ys p) ∙ g.none;
     }
 
-behind_strategy : (s : StrategyTree) (ls : List Leaf) (ts : List Tally) → Lead ls ts → Lead (spell_strategy s ++ ls) ts
+behind_strategy : (s : StrategyTree) (ls : List Leaf) (ts : List Tally) → Lead ls ts →
+    Lead (spell_strategy s ++ ls) ts
 behind_strategy no_strategy ls ts more = more
 behind_strategy (strategy_iri t) ls ts more = skip (Iri t) ls ts refl more
 behind_strategy (strategy_curie t) ls ts more = skip (Curie t) ls ts refl more
 
-behind_priority : (q : PriorityTree) (ls : List Leaf) (ts : List Tally) → Lead ls ts → Lead (spell_priority q ++ ls) ts
+behind_priority : (q : PriorityTree) (ls : List Leaf) (ts : List Tally) → Lead ls ts →
+    Lead (spell_priority q ++ ls) ts
 behind_priority no_priority ls ts more = more
 behind_priority (priority z) ls ts more = skip (Int z) ls ts refl more
 

@@ -1,13 +1,17 @@
 -- Where no refusal stands, each rule that is read keeps the limits.
-use Rattle.std.proofs.Common.{◌≡◌, ◌≤◌, ◌<◌, ◌+◌, ◌&&◌, ℕ, suc, Bool, true, false, not, nat_le, List, [], ◌∷◌, ◌++◌, refl, arith, length, take, get_or, length-append, Some, None, if◌then◌else◌, leb-false}
+use Rattle.std.proofs.Common.{◌≡◌, ◌≤◌, ◌<◌, ◌+◌, ◌&&◌, ℕ, suc, Bool, true, false, not, nat_le, List, [], ◌∷◌, ◌++◌}
+use Rattle.std.proofs.Common.{refl, arith, length, take, get_or, length-append, Some, None, if◌then◌else◌, leb-false}
 use Rattle.std.specs.declared.option.Option.{Option}
 use Rattle.rif_terms.specs.declared.limits.TheConstants.{MOST_RULES, MOST_VARIABLES, MOST_PATTERNS, MOST_ACTIONS}
 use Rattle.prd_reader.specs.declared.cause.Cause.{Cause}
 use Rattle.prd_reader.specs.declared.leaf.Leaf.{Leaf}
 use Rattle.prd_reader.specs.declared.leaf.Leaf.TheVariants.{Var}
 use Rattle.prd_reader.specs.declared.progress.Bracket.{Bracket}
-use Rattle.prd_reader.specs.Progress.{Counts, Progress, at_start, progress_with, progress_from, rule_at, begins_rule, no_counts, ends_rule, counts_with, is_new_rule, is_pattern, is_action}
-use Rattle.prd_reader.specs.Refusals.{cause_at, cause_in_rule, is_refused_type, is_too_deep, is_wide, is_undeclared, is_unknown, is_wrong_arity, is_bad_strategy, is_bad_priority, is_name_too_many, is_pattern_too_many, is_action_too_many, IsClear}
+use Rattle.prd_reader.specs.Progress.{Counts, Progress, at_start, progress_with, progress_from, rule_at, begins_rule}
+use Rattle.prd_reader.specs.Progress.{no_counts, ends_rule, counts_with, is_new_rule, is_pattern, is_action}
+use Rattle.prd_reader.specs.Refusals.{cause_at, cause_in_rule, is_refused_type, is_too_deep, is_wide, is_undeclared}
+use Rattle.prd_reader.specs.Refusals.{is_unknown, is_wrong_arity, is_bad_strategy, is_bad_priority, is_name_too_many}
+use Rattle.prd_reader.specs.Refusals.{is_pattern_too_many, is_action_too_many, IsClear}
 use Rattle.prd_reader.specs.Values.{has_name, names_with}
 use Rattle.prd_reader.proofs.CountingFoldLemmas.{within, Tally, tally_of, tally_ended, tallies}
 
@@ -173,7 +177,11 @@ rules_begun : (begins : Bool) (r k : ℕ) (bs : List Bracket) (named : Bool) (l 
     (let now : Option Counts = if begins then Some (no_counts k) else None in
     (if begins then suc r else r) ≡ r
     + (length {A = Tally} (elim now [ None ↦ [] | Some c ↦ if ends_rule bs c l then tally_of c ∷ [] else [] ])
-    + open_rules (elim now [ None ↦ None | Some c ↦ if ends_rule bs c l then None else Some (counts_with named c l) ])))
+    + open_rules (elim now [
+      | None ↦ None
+      | Some c ↦ if ends_rule bs c l then None else Some
+          (counts_with named c l)
+    ])))
 rules_begun true r k bs named l =
     omega (arith, ended_or_open (ends_rule bs (no_counts k) l) (no_counts k) (counts_with named (no_counts k) l))
 rules_begun false r k bs named l = omega arith

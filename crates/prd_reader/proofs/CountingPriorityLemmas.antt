@@ -1,5 +1,6 @@
 -- Where no refusal stands, each rule that is read has a priority in range.
-use Rattle.std.proofs.Common.{◌≡◌, ◌≤ℤ◌, ◌&&◌, ℤ, pos, neg_ℤ, int_le, Bool, true, false, not, List, [], ◌∷◌, ◌++◌, refl, subst, arith, Some, None}
+use Rattle.std.proofs.Common.{◌≡◌, ◌≤ℤ◌, ◌&&◌, ℤ, pos, neg_ℤ, int_le, Bool, true, false, not, List, [], ◌∷◌, ◌++◌}
+use Rattle.std.proofs.Common.{refl, subst, arith, Some, None}
 use Rattle.std.proofs.lemmas.Bool.{not-false}
 use Rattle.std.proofs.lemmas.Int.{ints}
 use Rattle.rif_terms.specs.declared.limits.TheConstants.{MOST_PRIORITY}
@@ -9,7 +10,11 @@ use Rattle.prd_reader.specs.declared.leaf.Leaf.{Leaf}
 use Rattle.prd_reader.specs.declared.leaf.Leaf.TheVariants.{Key, Int, Iri, Curie, Open, Close}
 use Rattle.prd_reader.specs.Progress.{Progress, at_start, progress_with, progress_from}
 use Rattle.prd_reader.specs.Refusals.{is_priority}
-use Rattle.prd_reader.specs.Trees.{spell_rule, StrategyTree, no_strategy, strategy_iri, strategy_curie, spell_strategy, PriorityTree, no_priority, priority, spell_priority, GroupTree, group, MemberTrees, no_members, rule_member, group_member, spell_group, spell_members, PrefixTrees, no_group, one_group, prefix, spell_prefixes, DocumentTree, document, spell_document}
+use Rattle.prd_reader.specs.Trees.{spell_rule, StrategyTree, no_strategy, strategy_iri, strategy_curie}
+use Rattle.prd_reader.specs.Trees.{spell_strategy, PriorityTree, no_priority, priority, spell_priority, GroupTree}
+use Rattle.prd_reader.specs.Trees.{group, MemberTrees, no_members, rule_member, group_member, spell_group}
+use Rattle.prd_reader.specs.Trees.{spell_members, PrefixTrees, no_group, one_group, prefix, spell_prefixes}
+use Rattle.prd_reader.specs.Trees.{DocumentTree, document, spell_document}
 use Rattle.prd_reader.specs.Values.{priority_in, group_rules, member_rules, rules_behind, document_value}
 use Rattle.prd_reader.proofs.CountingLimitLemmas.{Clear, passed}
 
@@ -61,7 +66,8 @@ group_head : (s : StrategyTree) (q : PriorityTree) (z : ℤ) (p : Progress) (ls 
     Clear p (spell_strategy s ++ (spell_priority q ++ ls)) → InRange z → InRange (priority_in z q)
 group_head no_strategy q z p ls head clear ok = head_in_range q z p ls head clear ok
 group_head (strategy_iri t) q z p ls head clear ok = head_in_range q z (progress_with p (Iri t)) ls head clear.1 ok
-group_head (strategy_curie t) q z p ls head clear ok = head_in_range q z (progress_with p (Curie t)) ls head clear.1 ok
+group_head (strategy_curie t) q z p ls head clear ok =
+    head_in_range q z (progress_with p (Curie t)) ls head clear.1 ok
 
 mutual
   group_in_range : (g : GroupTree) (z : ℤ) (p : Progress) → Clear p (spell_group g) → InRange z →

@@ -3,11 +3,13 @@ use Rattle.std.proofs.Common.{◌≡◌, ℕ, suc, false, List, [], ◌∷◌, �
 use Rattle.prd_reader.specs.declared.leaf.Keyword.TheVariants.{Such, That, Then, Do}
 use Rattle.prd_reader.specs.declared.leaf.Leaf.{Leaf}
 use Rattle.prd_reader.specs.declared.leaf.Leaf.TheVariants.{Key, Open, Close}
-use Rattle.prd_reader.specs.Trees.{spell_vars, spell_formula, spell_such, spell_block, RuleTree, for_all, for_all_such, if_then, block, spell_rule}
+use Rattle.prd_reader.specs.Trees.{spell_vars, spell_formula, spell_such, spell_block, RuleTree, for_all}
+use Rattle.prd_reader.specs.Trees.{for_all_such, if_then, block, spell_rule}
 use Rattle.prd_reader.specs.Values.{rule_block}
 use Rattle.prd_reader.proofs.CountingFolds.{course, meets, signs}
 use Rattle.prd_reader.proofs.CountingTermLemmas.{apart, in_turn}
-use Rattle.prd_reader.proofs.CountingFormulaLemmas.{vars_course, vars_signs, formula_course, formula_signs, formula_adds, such_course, such_signs, such_adds}
+use Rattle.prd_reader.proofs.CountingFormulaLemmas.{vars_course, vars_signs, formula_course, formula_signs}
+use Rattle.prd_reader.proofs.CountingFormulaLemmas.{formula_adds, such_course, such_signs, such_adds}
 use Rattle.prd_reader.proofs.CountingActionLemmas.{block_course, block_adds}
 
 -- the brackets that are open at a rule's `Do`, and the leaves behind its block, where these follow the rule
@@ -53,7 +55,8 @@ rule_adds (for_all_such vs fs r) n = rule_adds r (such_adds fs n)
 rule_adds (if_then f b) n = formula_adds f n
 rule_adds (block b) n = n
 
-pub rule_signs : (r : RuleTree) (n : ℕ) (rest : List Leaf) → signs false false n (spell_rule r ++ rest) ≡ rule_adds r n
+pub rule_signs : (r : RuleTree) (n : ℕ) (rest : List Leaf) →
+    signs false false n (spell_rule r ++ rest) ≡ rule_adds r n
 rule_signs (for_all vs r) n rest = in_turn (spell_vars vs) (Open ∷ (spell_rule r ++ Close ∷ [])) rest false false n
     ∙ (vars_signs vs false false n _
     ∙ (in_turn (spell_rule r) (Close ∷ []) rest false false n ∙ rule_signs r n (Close ∷ rest)))

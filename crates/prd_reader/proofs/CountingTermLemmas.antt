@@ -1,9 +1,13 @@
 -- Along a term nothing is counted.
 use Rattle.std.proofs.Common.{◌≡◌, ℕ, suc, Bool, false, not, List, [], ◌∷◌, ◌++◌, refl, ap, ◌∙◌, append_assoc}
-use Rattle.prd_reader.specs.declared.leaf.Literal.TheVariants.{Integer, Boolean, String, Iri as IriLiteral, Local as LocalLiteral, OfNoType}
+use Rattle.prd_reader.specs.declared.leaf.Literal.TheVariants.{Integer, Boolean, String, Iri as IriLiteral}
+use Rattle.prd_reader.specs.declared.leaf.Literal.TheVariants.{Local as LocalLiteral, OfNoType}
 use Rattle.prd_reader.specs.declared.leaf.Leaf.{Leaf}
 use Rattle.prd_reader.specs.declared.leaf.Leaf.TheVariants.{Close, CloseSquare, Arrow}
-use Rattle.prd_reader.specs.Trees.{ConstTree, const_int, const_string, const_typed, const_iri, const_curie, const_local, const_true, const_false, spell_const, TermTree, constant, variable, call, func_known, func_unknown, func_undeclared, TermTrees, no_terms, terms, spell_term, spell_terms, PairTrees, last_pair, pairs, spell_pairs}
+use Rattle.prd_reader.specs.Trees.{ConstTree, const_int, const_string, const_typed, const_iri, const_curie}
+use Rattle.prd_reader.specs.Trees.{const_local, const_true, const_false, spell_const, TermTree, constant, variable}
+use Rattle.prd_reader.specs.Trees.{call, func_known, func_unknown, func_undeclared, TermTrees, no_terms, terms}
+use Rattle.prd_reader.specs.Trees.{spell_term, spell_terms, PairTrees, last_pair, pairs, spell_pairs}
 use Rattle.prd_reader.proofs.CountingFolds.{course, signs}
 
 pub const_course : (c : ConstTree) (rest : List Leaf) (d a : ℕ) → course (spell_const c ++ rest) d a ≡ course rest d a

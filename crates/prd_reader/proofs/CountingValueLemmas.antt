@@ -4,12 +4,25 @@ use Rattle.rif_terms.specs.declared.builtin.Pred.{Pred}
 use Rattle.rif_terms.specs.declared.constant.Const.{Const}
 use Rattle.rif_terms.specs.declared.tree.Term.{Term}
 use Rattle.rif_terms.specs.declared.tree.Formula.{Formula}
-use Rattle.rif_terms.specs.declared.tree.Formula.TheVariants.{And, Or, Not, Exists, Equal, Member, Frame, Atom, Holds, rolls-And, rolls-Or, rolls-Not, rolls-Exists, rolls-Equal, rolls-Member, rolls-Frame, rolls-Atom, rolls-Holds}
-use Rattle.rif_terms.specs.declared.tree.Formula.TheOpen.{And as AndLayer, Or as OrLayer, Not as NotLayer, Exists as ExistsLayer, Equal as EqualLayer, Member as MemberLayer, Frame as FrameLayer, Atom as AtomLayer, Holds as HoldsLayer}
+use Rattle.rif_terms.specs.declared.tree.Formula.TheVariants.{And, Or, Not, Exists, Equal, Member, Frame, Atom, Holds}
+use Rattle.rif_terms.specs.declared.tree.Formula.TheVariants.{rolls-And, rolls-Or, rolls-Not, rolls-Exists}
+use Rattle.rif_terms.specs.declared.tree.Formula.TheVariants.{rolls-Equal, rolls-Member, rolls-Frame, rolls-Atom}
+use Rattle.rif_terms.specs.declared.tree.Formula.TheVariants.{rolls-Holds}
+use Rattle.rif_terms.specs.declared.tree.Formula.TheOpen.{And as AndLayer, Or as OrLayer, Not as NotLayer}
+use Rattle.rif_terms.specs.declared.tree.Formula.TheOpen.{Exists as ExistsLayer, Equal as EqualLayer}
+use Rattle.rif_terms.specs.declared.tree.Formula.TheOpen.{Member as MemberLayer, Frame as FrameLayer}
+use Rattle.rif_terms.specs.declared.tree.Formula.TheOpen.{Atom as AtomLayer, Holds as HoldsLayer}
 use Rattle.rif_terms.specs.declared.tree.Formula.TheFolds.{fold-roll-Formula}
-use Rattle.prd_reader.specs.Limits.{sum_of, patterns_in, pattern_count, patterns_of, level_patterns, condition_patterns}
-use Rattle.prd_reader.specs.Trees.{PairTrees, last_pair, pairs, Tail, equals, member_of, with_pairs, FormulaTree, conj, disj, neg, some, grouped, holds, compared, atom, FormulaTrees, no_formulas, formulas, term_of_first, SuchTrees, last_such, more_such, RuleTree, for_all, for_all_such, if_then, block, ActionTrees, last_action, actions, BlockTree, acts, new_object, slot_value}
-use Rattle.prd_reader.specs.Values.{pairs_value, tail_value, term_value, terms_value, vars_value, formula_value, formulas_value, name_value, pred_value, such_value, rule_levels, rule_condition, actions_value, block_actions}
+use Rattle.prd_reader.specs.Limits.{sum_of, patterns_in, pattern_count, patterns_of, level_patterns}
+use Rattle.prd_reader.specs.Limits.{condition_patterns}
+use Rattle.prd_reader.specs.Trees.{PairTrees, last_pair, pairs, Tail, equals, member_of, with_pairs, FormulaTree}
+use Rattle.prd_reader.specs.Trees.{conj, disj, neg, some, grouped, holds, compared, atom, FormulaTrees, no_formulas}
+use Rattle.prd_reader.specs.Trees.{formulas, term_of_first, SuchTrees, last_such, more_such, RuleTree, for_all}
+use Rattle.prd_reader.specs.Trees.{for_all_such, if_then, block, ActionTrees, last_action, actions, BlockTree, acts}
+use Rattle.prd_reader.specs.Trees.{new_object, slot_value}
+use Rattle.prd_reader.specs.Values.{pairs_value, tail_value, term_value, terms_value, vars_value, formula_value}
+use Rattle.prd_reader.specs.Values.{formulas_value, name_value, pred_value, such_value, rule_levels, rule_condition}
+use Rattle.prd_reader.specs.Values.{actions_value, block_actions}
 use Rattle.prd_reader.proofs.CountingTermLemmas.{pairs_adds}
 use Rattle.prd_reader.proofs.CountingFormulaLemmas.{tail_adds, formula_adds, formulas_adds, such_adds}
 use Rattle.prd_reader.proofs.CountingActionLemmas.{actions_add, block_adds}

@@ -32,8 +32,10 @@ built_of ls names built leads builds =
 same_doc : (a b : Doc) → Some a ≡ Some b → a ≡ b
 same_doc a b same = cc
 
-pub is_read : (tokens : List Token) (bytes : List ℕ) (ls : List Leaf) (prefixes : Prefixes) (names : List (List (List ℕ)))
-    (built : Option Doc) (doc : Doc) → ls ≡ leaves_of bytes tokens → prefixes ≡ prefixes_from [] [] (leaves_of bytes tokens)
+pub is_read : (tokens : List Token) (bytes : List ℕ) (ls : List Leaf) (prefixes : Prefixes)
+    (names : List (List (List ℕ)))
+    (built : Option Doc) (doc : Doc) → ls ≡ leaves_of bytes tokens →
+    prefixes ≡ prefixes_from [] [] (leaves_of bytes tokens)
     → LeadsTo ls (Document names) → Builds ls names built → built ≡ Some doc → IsRead tokens bytes doc prefixes
 is_read tokens bytes ls prefixes names built doc are found leads builds some =
     let tree = built_of ls names built leads builds in
@@ -51,23 +53,27 @@ pub always_built : (ls : List Leaf) (names : List (List (List ℕ))) (built : Op
 always_built ls names built leads builds none =
     let is = (built_of ls names built leads builds).2 in absurd (cc)
 
-clear_of : (tokens : List Token) (bytes : List ℕ) (doc : Doc) (prefixes : Prefixes) (read : IsRead tokens bytes doc prefixes)
+clear_of : (tokens : List Token) (bytes : List ℕ) (doc : Doc) (prefixes : Prefixes)
+    (read : IsRead tokens bytes doc prefixes)
     → IsClear (spell_document read.tree) (length (spell_document read.tree))
 clear_of tokens bytes doc prefixes read =
     subst (λ (all : List Leaf). IsClear all (length all)) (sym read.spelled)
     (subst (IsClear (leaves_of bytes tokens)) (sym (count_of_leaves bytes tokens)) read.clear)
 
-pub keeps_limits : (tokens : List Token) (bytes : List ℕ) (doc : Doc) (prefixes : Prefixes) → IsRead tokens bytes doc prefixes
+pub keeps_limits : (tokens : List Token) (bytes : List ℕ) (doc : Doc) (prefixes : Prefixes) →
+    IsRead tokens bytes doc prefixes
     → KeepsLimits doc
 keeps_limits tokens bytes doc prefixes read =
     subst KeepsLimits read.value (counts.limits read.tree (clear_of tokens bytes doc prefixes read))
 
-pub keeps_places : (tokens : List Token) (bytes : List ℕ) (doc : Doc) (prefixes : Prefixes) → IsRead tokens bytes doc prefixes
+pub keeps_places : (tokens : List Token) (bytes : List ℕ) (doc : Doc) (prefixes : Prefixes) →
+    IsRead tokens bytes doc prefixes
     → KeepsPlaces doc
 keeps_places tokens bytes doc prefixes read = subst KeepsPlaces read.value (places read.tree)
 
 pub is_refused : (tokens : List Token) (bytes : List ℕ) (ls : List Leaf) (place : ℕ) (cause : Cause) (line col : ℕ)
-    → ls ≡ leaves_of bytes tokens → IsRefusedAt ls place cause → line ≡ line_of bytes tokens place → col ≡ column_of bytes tokens place
+    → ls ≡ leaves_of bytes tokens → IsRefusedAt ls place cause → line ≡ line_of bytes tokens place →
+    col ≡ column_of bytes tokens place
     → IsRefused tokens bytes (refusal_at cause line col)
 is_refused tokens bytes ls place cause line col are refused on_line in_column = record {
   place = place;

@@ -1,12 +1,25 @@
 -- Each stack of wants has an ending.
 use Rattle.std.proofs.Common.{◌≡◌, ℕ, Bool, true, cond, List, [], ◌∷◌, Some, None, refl, ap, ◌∙◌}
 use Rattle.std.proofs.lemmas.Slice.Eq.{bytes_eq-Decides}
-use Rattle.prd_reader.specs.declared.leaf.Keyword.TheVariants.{Document as DocumentKey, That as ThatKey, Then as ThenKey, Do as DoKey, New, Retract, True}
+use Rattle.prd_reader.specs.declared.leaf.Keyword.TheVariants.{Document as DocumentKey, That as ThatKey}
+use Rattle.prd_reader.specs.declared.leaf.Keyword.TheVariants.{Then as ThenKey, Do as DoKey, New, Retract, True}
 use Rattle.prd_reader.specs.declared.leaf.BuiltinName.TheVariants.{Unknown}
 use Rattle.prd_reader.specs.declared.leaf.Leaf.{Leaf}
-use Rattle.prd_reader.specs.declared.leaf.Leaf.TheVariants.{Key, Word, TypeName as TypeLeaf, Iri, Builtin, Local, Var, Open as OpenLeaf, Close as CloseLeaf, OpenSquare as OpenSquareLeaf, CloseSquare as CloseSquareLeaf, Equal, Hash, Arrow as ArrowLeaf, Carets as CaretsLeaf}
+use Rattle.prd_reader.specs.declared.leaf.Leaf.TheVariants.{Key, Word, TypeName as TypeLeaf, Iri, Builtin, Local, Var}
+use Rattle.prd_reader.specs.declared.leaf.Leaf.TheVariants.{Open as OpenLeaf, Close as CloseLeaf}
+use Rattle.prd_reader.specs.declared.leaf.Leaf.TheVariants.{OpenSquare as OpenSquareLeaf}
+use Rattle.prd_reader.specs.declared.leaf.Leaf.TheVariants.{CloseSquare as CloseSquareLeaf, Equal, Hash}
+use Rattle.prd_reader.specs.declared.leaf.Leaf.TheVariants.{Arrow as ArrowLeaf, Carets as CaretsLeaf}
 use Rattle.prd_reader.specs.declared.want.Want.{Want}
-use Rattle.prd_reader.specs.declared.want.Want.TheVariants.{Document, Prefixes, PrefixName, PrefixIri, GroupHead, GroupPriority, Members, Rule, Variable, ForallRest, SuchRest, SuchBracket, Block, Actions, DeclVariable, DeclRest, SameVariable, Target, TargetTail, TargetAfterName, Retracted, RetractedTail, RetractedAfterName, Formula, Formulas, ExistsRest, BuiltinOfFormula, Tail, AfterName, Term, Terms, FuncName, Pairs, TypeName, Open, Close, OpenSquare, CloseSquare, Arrow, Carets, That, Then, Do}
+use Rattle.prd_reader.specs.declared.want.Want.TheVariants.{Document, Prefixes, PrefixName, PrefixIri, GroupHead}
+use Rattle.prd_reader.specs.declared.want.Want.TheVariants.{GroupPriority, Members, Rule, Variable, ForallRest}
+use Rattle.prd_reader.specs.declared.want.Want.TheVariants.{SuchRest, SuchBracket, Block, Actions, DeclVariable}
+use Rattle.prd_reader.specs.declared.want.Want.TheVariants.{DeclRest, SameVariable, Target, TargetTail}
+use Rattle.prd_reader.specs.declared.want.Want.TheVariants.{TargetAfterName, Retracted, RetractedTail}
+use Rattle.prd_reader.specs.declared.want.Want.TheVariants.{RetractedAfterName, Formula, Formulas, ExistsRest}
+use Rattle.prd_reader.specs.declared.want.Want.TheVariants.{BuiltinOfFormula, Tail, AfterName, Term, Terms, FuncName}
+use Rattle.prd_reader.specs.declared.want.Want.TheVariants.{Pairs, TypeName, Open, Close, OpenSquare, CloseSquare}
+use Rattle.prd_reader.specs.declared.want.Want.TheVariants.{Arrow, Carets, That, Then, Do}
 use Rattle.prd_reader.specs.Following.{followed, after}
 
 -- a block of one action, with its bracket, and other leaves behind it

@@ -1,9 +1,11 @@
 -- A text of UTF-8 stays one where its escapes are undone.
-use Rattle.std.proofs.Common.{◌≡◌, sym, subst, ap, refl, ℕ, ◌<◌, ◌≤◌, ◌==◌, ◌&&◌, ◌||◌, nat_lt, Bool, true, false, cond, suc, List, [], ◌∷◌, ◌++◌, length, get_or, append-nil, arith, IsUtf8}
+use Rattle.std.proofs.Common.{◌≡◌, sym, subst, ap, refl, ℕ, ◌<◌, ◌≤◌, ◌==◌, ◌&&◌, ◌||◌, nat_lt, Bool, true, false}
+use Rattle.std.proofs.Common.{cond, suc, List, [], ◌∷◌, ◌++◌, length, get_or, append-nil, arith, IsUtf8}
 use Rattle.std.specs.List.{list_any}
 use Rattle.std.proofs.lemmas.Bool.{ltb-true, ltb-false}
 use Rattle.std.proofs.lemmas.Bool.Decides.{nat_tests}
-use Rattle.std.proofs.lemmas.Str.{inside_one, encode_ascii, length-encode, len_utf8_bounds, IsUtf8-nil, IsUtf8-append, IsUtf8-from_ascii}
+use Rattle.std.proofs.lemmas.Str.{inside_one, encode_ascii, length-encode, len_utf8_bounds, IsUtf8-nil, IsUtf8-append}
+use Rattle.std.proofs.lemmas.Str.{IsUtf8-from_ascii}
 use Rattle.std.proofs.lemmas.Str.Ascii.{IsAscii-cons, IsAscii-nil}
 use lib.Utf8.{scalars, scalar, encodes, encode}
 use Rattle.prd_reader.specs.Literals.{escape_of, unescaped_from, unescaped}
@@ -106,7 +108,8 @@ characters_utf8 (c ∷ cs) all escape =
     ] refl
 
 pub unescaped_utf8 : (text : List ℕ) → IsUtf8 text → IsUtf8 (unescaped text)
-unescaped_utf8 text utf8 = subst (λ (t : List ℕ). IsUtf8 (unescaped t)) utf8.1.1 (characters_utf8 utf8.0 utf8.1.0 false)
+unescaped_utf8 text utf8 =
+    subst (λ (t : List ℕ). IsUtf8 (unescaped t)) utf8.1.1 (characters_utf8 utf8.0 utf8.1.0 false)
 
 -- a text without escapes stands for itself
 pub plain_is : (text : List ℕ) → list_any (λ b. b == 92) text ≡ false → unescaped text ≡ text

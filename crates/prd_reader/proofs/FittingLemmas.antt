@@ -79,7 +79,8 @@ fits_at_end : (bs : List Bracket) (named : Bool) (c : Counts) (l : Leaf) → end
     cause_in_rule named (Some c) l ≡ None
 fits_at_end bs named c Close ends =
     let_pass (is_pattern_too_many named c Close) _ _
-    (and_left (is_pattern named c Close) (nat_le MOST_PATTERNS c.patterns) (and_right (not c.in_block) false refl)) refl
+    (and_left (is_pattern named c Close) (nat_le MOST_PATTERNS c.patterns)
+    (and_right (not c.in_block) false refl)) refl
 fits_at_end bs named c l ends = cc
 
 -- by whether the rule ends at the leaf

@@ -5,14 +5,24 @@ use Rattle.rif_terms.specs.declared.builtin.Pred.{Pred}
 use Rattle.rif_terms.specs.declared.constant.Const.{Const}
 use Rattle.rif_terms.specs.declared.tree.Term.{Term}
 use Rattle.rif_terms.specs.declared.tree.Term.TheOpen.{Const as ConstLayer, Var as VarLayer, Call as CallLayer}
-use Rattle.rif_terms.specs.declared.tree.Term.TheVariants.{Const as ConstTerm, Var as VarTerm, Call, rolls-Const, rolls-Var, rolls-Call}
+use Rattle.rif_terms.specs.declared.tree.Term.TheVariants.{Const as ConstTerm, Var as VarTerm, Call, rolls-Const}
+use Rattle.rif_terms.specs.declared.tree.Term.TheVariants.{rolls-Var, rolls-Call}
 use Rattle.rif_terms.specs.declared.tree.Term.TheFolds.{fold-roll-Term}
 use Rattle.rif_terms.specs.declared.tree.Formula.{Formula}
-use Rattle.rif_terms.specs.declared.tree.Formula.TheOpen.{And as AndLayer, Or as OrLayer, Not as NotLayer, Exists as ExistsLayer, Equal as EqualLayer, Member as MemberLayer, Frame as FrameLayer, Atom as AtomLayer, Holds as HoldsLayer}
-use Rattle.rif_terms.specs.declared.tree.Formula.TheVariants.{And, Or, Not, Exists, Equal, Member, Frame, Atom, Holds, rolls-And, rolls-Or, rolls-Not, rolls-Exists, rolls-Equal, rolls-Member, rolls-Frame, rolls-Atom, rolls-Holds}
+use Rattle.rif_terms.specs.declared.tree.Formula.TheOpen.{And as AndLayer, Or as OrLayer, Not as NotLayer}
+use Rattle.rif_terms.specs.declared.tree.Formula.TheOpen.{Exists as ExistsLayer, Equal as EqualLayer}
+use Rattle.rif_terms.specs.declared.tree.Formula.TheOpen.{Member as MemberLayer, Frame as FrameLayer}
+use Rattle.rif_terms.specs.declared.tree.Formula.TheOpen.{Atom as AtomLayer, Holds as HoldsLayer}
+use Rattle.rif_terms.specs.declared.tree.Formula.TheVariants.{And, Or, Not, Exists, Equal, Member, Frame, Atom, Holds}
+use Rattle.rif_terms.specs.declared.tree.Formula.TheVariants.{rolls-And, rolls-Or, rolls-Not, rolls-Exists}
+use Rattle.rif_terms.specs.declared.tree.Formula.TheVariants.{rolls-Equal, rolls-Member, rolls-Frame, rolls-Atom}
+use Rattle.rif_terms.specs.declared.tree.Formula.TheVariants.{rolls-Holds}
 use Rattle.rif_terms.specs.declared.tree.Formula.TheFolds.{fold-roll-Formula}
 use Rattle.rif_lex.specs.Spelling.{Gap, Spelled, spelled_text}
-use Rattle.prd_reader.specs.Canonical.{Writing, func_text, pred_text, external_spelling, term_step, term_spelling, const_spelling, var_spelling, bracket_spelling, not_spelling, exists_spelling, equal_spelling, member_spelling, frame_spelling, atom_spelling, formula_step, formula_spelling}
+use Rattle.prd_reader.specs.Canonical.{Writing, func_text, pred_text, external_spelling, term_step, term_spelling}
+use Rattle.prd_reader.specs.Canonical.{const_spelling, var_spelling, bracket_spelling, not_spelling, exists_spelling}
+use Rattle.prd_reader.specs.Canonical.{equal_spelling, member_spelling, frame_spelling, atom_spelling, formula_step}
+use Rattle.prd_reader.specs.Canonical.{formula_spelling}
 use Rattle.prd_reader.proofs.WritingLemmas.{IsAppended}
 
 pub spelled_call : (names : List (List ℕ)) (f : Func) (ts : List Term) (gap : Gap) (rest : List Spelled) →
@@ -27,12 +37,14 @@ pub call_written : (names : List (List ℕ)) (t : Term) (f : Func) (ts arguments
     IsAppended old new (term_spelling names t)
 call_written names t f ts arguments old new is same appended gap rest =
     appended gap rest
-    ∙ (ap (λ (x : List Term). old ++ spelled_text (external_spelling (func_text f) (map (term_spelling names) x) gap rest)) same
+    ∙ (ap (λ (x : List Term). old
+    ++ spelled_text (external_spelling (func_text f) (map (term_spelling names) x) gap rest)) same
     ∙ (ap (λ ss. old ++ spelled_text ss) (sym (spelled_call names f ts gap rest))
     ∙ ap (λ (x : Term). old ++ spelled_text (term_spelling names x gap rest)) (sym is)))
 
 pub spelled_and : (names : List (List ℕ)) (fs : List Formula) (gap : Gap) (rest : List Spelled) →
-    formula_spelling names (And fs) gap rest ≡ bracket_spelling (codes "And") (map (formula_spelling names) fs) gap rest
+    formula_spelling names (And fs) gap rest
+    ≡ bracket_spelling (codes "And") (map (formula_spelling names) fs) gap rest
 spelled_and names fs gap rest =
     ap (λ (f : Formula). formula_spelling names f gap rest) (sym (rolls-And fs))
     ∙ ap (λ (k : Writing). k gap rest) (fold-roll-Formula Writing (formula_step names) (AndLayer fs))
@@ -93,7 +105,8 @@ spelled_atom names p ts gap rest =
     ∙ ap (λ (k : Writing). k gap rest) (fold-roll-Formula Writing (formula_step names) (AtomLayer p ts))
 
 pub spelled_holds : (names : List (List ℕ)) (p : Pred) (ts : List Term) (gap : Gap) (rest : List Spelled) →
-    formula_spelling names (Holds p ts) gap rest ≡ external_spelling (pred_text p) (map (term_spelling names) ts) gap rest
+    formula_spelling names (Holds p ts) gap rest
+    ≡ external_spelling (pred_text p) (map (term_spelling names) ts) gap rest
 spelled_holds names p ts gap rest =
     ap (λ (f : Formula). formula_spelling names f gap rest) (sym (rolls-Holds p ts))
     ∙ ap (λ (k : Writing). k gap rest) (fold-roll-Formula Writing (formula_step names) (HoldsLayer p ts))

@@ -3,13 +3,24 @@ use Rattle.std.proofs.Common.{◌≡◌, refl, ap, ◌∙◌, ℕ, List, [], ◌
 use Rattle.std.specs.declared.option.Option.{Option}
 use Rattle.std.proofs.lemmas.Slice.Eq.{bytes_eq-Decides}
 use Rattle.prd_reader.specs.declared.leaf.Leaf.{Leaf}
-use Rattle.prd_reader.specs.declared.leaf.Leaf.TheVariants.{Var, Open as OpenLeaf, Close as CloseLeaf, OpenSquare as OpenSquareLeaf, CloseSquare as CloseSquareLeaf, Hash, Arrow as ArrowLeaf}
+use Rattle.prd_reader.specs.declared.leaf.Leaf.TheVariants.{Var, Open as OpenLeaf, Close as CloseLeaf}
+use Rattle.prd_reader.specs.declared.leaf.Leaf.TheVariants.{OpenSquare as OpenSquareLeaf}
+use Rattle.prd_reader.specs.declared.leaf.Leaf.TheVariants.{CloseSquare as CloseSquareLeaf, Hash, Arrow as ArrowLeaf}
 use Rattle.prd_reader.specs.declared.want.Want.{Want}
-use Rattle.prd_reader.specs.declared.want.Want.TheVariants.{Block, Actions, DeclRest, SameVariable, Target, TargetTail, TargetAfterName, Retracted, RetractedTail, RetractedAfterName, Term, Pairs, Close, OpenSquare, CloseSquare, Arrow}
-use Rattle.prd_reader.specs.Trees.{const_int, const_string, const_typed, const_iri, const_curie, const_local, const_true, const_false, spell_name, TermTree, constant, variable, call, spell_term, spell_terms, spell_pairs, TargetTree, target_member, target_frame, target_atom, spell_target, ActionTree, assert, retract, retract_slot, retract_object, modify, spell_action, ActionTrees, last_action, actions, spell_actions, BlockTree, acts, new_object, slot_value, spell_block}
+use Rattle.prd_reader.specs.declared.want.Want.TheVariants.{Block, Actions, DeclRest, SameVariable, Target}
+use Rattle.prd_reader.specs.declared.want.Want.TheVariants.{TargetTail, TargetAfterName, Retracted, RetractedTail}
+use Rattle.prd_reader.specs.declared.want.Want.TheVariants.{RetractedAfterName, Term, Pairs, Close, OpenSquare}
+use Rattle.prd_reader.specs.declared.want.Want.TheVariants.{CloseSquare, Arrow}
+use Rattle.prd_reader.specs.Trees.{const_int, const_string, const_typed, const_iri, const_curie, const_local}
+use Rattle.prd_reader.specs.Trees.{const_true, const_false, spell_name, TermTree, constant, variable, call}
+use Rattle.prd_reader.specs.Trees.{spell_term, spell_terms, spell_pairs, TargetTree, target_member, target_frame}
+use Rattle.prd_reader.specs.Trees.{target_atom, spell_target, ActionTree, assert, retract, retract_slot}
+use Rattle.prd_reader.specs.Trees.{retract_object, modify, spell_action, ActionTrees, last_action, actions}
+use Rattle.prd_reader.specs.Trees.{spell_actions, BlockTree, acts, new_object, slot_value, spell_block}
 use Rattle.prd_reader.specs.Following.{after, followed}
 use Rattle.prd_reader.proofs.AfterLemmas.{after_parts}
-use Rattle.prd_reader.proofs.GoingTermLemmas.{StartsWithTerm, going_term, going_terms, going_pairs, after_named, going_named_term, going_name}
+use Rattle.prd_reader.proofs.GoingTermLemmas.{StartsWithTerm, going_term, going_terms, going_pairs, after_named}
+use Rattle.prd_reader.proofs.GoingTermLemmas.{going_named_term, going_name}
 
 target_is_named : (ws : List Want) (ls : List Leaf) →
     after (Some (Target ∷ ws)) ls ≡ after_named Target TargetAfterName TargetTail ws ls
@@ -30,7 +41,8 @@ going_target_term o ls ws rest end n t =
     ∙ (target_is_named ws (spell_term o ++ (ls ++ rest))
     ∙ going_named_term Target TargetAfterName TargetTail o ws (ls ++ rest) end n t)
 
-going_retracted_term : (o : TermTree) (ls : List Leaf) (ws : List Want) (rest : List Leaf) (end : Option (List Want)) →
+going_retracted_term : (o : TermTree) (ls : List Leaf) (ws : List Want) (rest : List Leaf)
+    (end : Option (List Want)) →
     after (Some (RetractedAfterName ∷ ws)) (ls ++ rest) ≡ end → after (Some (RetractedTail ∷ ws)) (ls ++ rest) ≡ end →
     after (Some (Retracted ∷ ws)) ((spell_term o ++ ls) ++ rest) ≡ end
 going_retracted_term o ls ws rest end n t =
@@ -99,7 +111,8 @@ going_slot w starts s ws rest =
     ∙ (starts s ws (CloseLeaf ∷ rest) ∙ going_term s (Close ∷ ws) (CloseLeaf ∷ rest))
 
 going_modified : (o : TermTree) (ls : List Leaf) (ws : List Want) (rest : List Leaf) →
-    after (Some (Term ∷ OpenSquare ∷ ws)) ((spell_term o ++ OpenSquareLeaf ∷ ls) ++ rest) ≡ after (Some ws) (ls ++ rest)
+    after (Some (Term ∷ OpenSquare ∷ ws)) ((spell_term o ++ OpenSquareLeaf ∷ ls) ++ rest)
+    ≡ after (Some ws) (ls ++ rest)
 going_modified o ls ws rest =
     after_parts (Some (Term ∷ OpenSquare ∷ ws)) (spell_term o) (OpenSquareLeaf ∷ ls) rest
     ∙ going_term o (OpenSquare ∷ ws) (OpenSquareLeaf ∷ (ls ++ rest))
@@ -186,5 +199,6 @@ pub going_block : (b : BlockTree) (ws : List Want) (rest : List Leaf) →
 going_block (acts acs) ws rest = actions_first acs ws rest ∙ going_actions acs ws rest
 going_block (new_object v b) ws rest = going_block b ws rest
 going_block (slot_value v o s b) ws rest =
-    going_object v o (spell_term s ++ ArrowLeaf ∷ Var v ∷ CloseSquareLeaf ∷ CloseLeaf ∷ spell_block b) (Block ∷ ws) rest
+    going_object v o (spell_term s ++ ArrowLeaf ∷ Var v ∷ CloseSquareLeaf ∷ CloseLeaf ∷ spell_block b)
+    (Block ∷ ws) rest
     ∙ (going_value v s (spell_block b) (Block ∷ ws) rest ∙ going_block b ws rest)

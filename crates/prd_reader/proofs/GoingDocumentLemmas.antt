@@ -4,7 +4,11 @@ use Rattle.prd_reader.specs.declared.leaf.Leaf.{Leaf}
 use Rattle.prd_reader.specs.declared.leaf.Leaf.TheVariants.{Open as OpenLeaf, Close as CloseLeaf}
 use Rattle.prd_reader.specs.declared.want.Want.{Want}
 use Rattle.prd_reader.specs.declared.want.Want.TheVariants.{Prefixes, GroupHead, Members, Rule, Close}
-use Rattle.prd_reader.specs.Trees.{RuleTree, for_all, for_all_such, if_then, block, spell_rule, StrategyTree, no_strategy, strategy_iri, strategy_curie, spell_strategy, PriorityTree, no_priority, priority, spell_priority, GroupTree, group, MemberTrees, no_members, rule_member, group_member, spell_group, spell_members, PrefixTrees, no_group, one_group, prefix, spell_prefixes, DocumentTree, document, spell_document}
+use Rattle.prd_reader.specs.Trees.{RuleTree, for_all, for_all_such, if_then, block, spell_rule, StrategyTree}
+use Rattle.prd_reader.specs.Trees.{no_strategy, strategy_iri, strategy_curie, spell_strategy, PriorityTree}
+use Rattle.prd_reader.specs.Trees.{no_priority, priority, spell_priority, GroupTree, group, MemberTrees, no_members}
+use Rattle.prd_reader.specs.Trees.{rule_member, group_member, spell_group, spell_members, PrefixTrees, no_group}
+use Rattle.prd_reader.specs.Trees.{one_group, prefix, spell_prefixes, DocumentTree, document, spell_document}
 use Rattle.prd_reader.specs.Following.{after, at_first}
 use Rattle.prd_reader.proofs.AfterLemmas.{after_parts}
 use Rattle.prd_reader.proofs.GoingRuleLemmas.{going_rule}
@@ -38,7 +42,8 @@ group_member_starts : (g : GroupTree) (ws : List Want) (rest : List Leaf) →
 group_member_starts (group s p ms) ws rest = refl
 
 document_group_starts : (g : GroupTree) (ws : List Want) (rest : List Leaf) →
-    after (Some (Prefixes ∷ ws)) (spell_group g ++ rest) ≡ after (Some (GroupHead ∷ Close ∷ ws)) (behind_word g ++ rest)
+    after (Some (Prefixes ∷ ws)) (spell_group g ++ rest)
+    ≡ after (Some (GroupHead ∷ Close ∷ ws)) (behind_word g ++ rest)
 document_group_starts (group s p ms) ws rest = refl
 
 mutual
@@ -67,4 +72,5 @@ going_prefixes (one_group g) ws rest =
 going_prefixes (prefix name iri ps) ws rest = going_prefixes ps ws rest
 
 pub goes : (t : DocumentTree) → after at_first (spell_document t) ≡ Some []
-goes (document ps) = ap (after (Some (Prefixes ∷ []))) (sym (append-nil (spell_prefixes ps))) ∙ going_prefixes ps [] []
+goes (document ps) = ap (after (Some (Prefixes ∷ []))) (sym (append-nil (spell_prefixes ps)))
+    ∙ going_prefixes ps [] []

@@ -2,13 +2,23 @@
 use Rattle.std.proofs.Common.{◌≡◌, refl, ap, ◌∙◌, List, [], ◌∷◌, ◌++◌, Some, None, append_assoc}
 use Rattle.std.specs.declared.option.Option.{Option}
 use Rattle.prd_reader.specs.declared.leaf.Leaf.{Leaf}
-use Rattle.prd_reader.specs.declared.leaf.Leaf.TheVariants.{Typed, TypeName, Carets, Open as OpenLeaf, Close as CloseLeaf}
+use Rattle.prd_reader.specs.declared.leaf.Leaf.TheVariants.{Typed, TypeName, Carets, Open as OpenLeaf}
+use Rattle.prd_reader.specs.declared.leaf.Leaf.TheVariants.{Close as CloseLeaf}
 use Rattle.prd_reader.specs.declared.want.Want.{Want}
-use Rattle.prd_reader.specs.declared.want.Want.TheVariants.{Variable, ExistsRest, Formula, Formulas, Tail as TailWant, AfterName, Close}
-use Rattle.prd_reader.specs.Trees.{ConstTree, const_int, const_string, const_typed, const_iri, const_curie, const_local, const_true, const_false, spell_const, NameTree, name_iri, name_curie, name_local, name_typed_iri, name_typed_local, spell_name, spell_term, spell_terms, constant, Tail, equals, member_of, with_pairs, spell_tail, Vars, spell_vars, spelled_not, spelled_ineg, FirstTerm, first_constant, first_variable, first_call, term_of_first, pred_known, pred_unknown, pred_undeclared, FormulaTree, conj, disj, neg, some, grouped, holds, compared, atom, FormulaTrees, no_formulas, formulas, spell_formula, spell_formulas}
+use Rattle.prd_reader.specs.declared.want.Want.TheVariants.{Variable, ExistsRest, Formula, Formulas, Tail as TailWant}
+use Rattle.prd_reader.specs.declared.want.Want.TheVariants.{AfterName, Close}
+use Rattle.prd_reader.specs.Trees.{ConstTree, const_int, const_string, const_typed, const_iri, const_curie}
+use Rattle.prd_reader.specs.Trees.{const_local, const_true, const_false, spell_const, NameTree, name_iri, name_curie}
+use Rattle.prd_reader.specs.Trees.{name_local, name_typed_iri, name_typed_local, spell_name, spell_term, spell_terms}
+use Rattle.prd_reader.specs.Trees.{constant, Tail, equals, member_of, with_pairs, spell_tail, Vars, spell_vars}
+use Rattle.prd_reader.specs.Trees.{spelled_not, spelled_ineg, FirstTerm, first_constant, first_variable, first_call}
+use Rattle.prd_reader.specs.Trees.{term_of_first, pred_known, pred_unknown, pred_undeclared, FormulaTree, conj, disj}
+use Rattle.prd_reader.specs.Trees.{neg, some, grouped, holds, compared, atom, FormulaTrees, no_formulas, formulas}
+use Rattle.prd_reader.specs.Trees.{spell_formula, spell_formulas}
 use Rattle.prd_reader.specs.Following.{after, followed, named_next}
 use Rattle.prd_reader.proofs.AfterLemmas.{after_parts}
-use Rattle.prd_reader.proofs.GoingTermLemmas.{going_term, going_terms, going_arguments, going_pairs, going_vars, after_named, going_named_term}
+use Rattle.prd_reader.proofs.GoingTermLemmas.{going_term, going_terms, going_arguments, going_pairs, going_vars}
+use Rattle.prd_reader.proofs.GoingTermLemmas.{after_named, going_named_term}
 
 going_tail : (t : Tail) (ws : List Want) (rest : List Leaf) →
     after (Some (TailWant ∷ ws)) (spell_tail t ++ rest) ≡ after (Some ws) rest
@@ -109,7 +119,8 @@ mutual
       after (Some (Formula ∷ ws)) (spell_formula f ++ rest) ≡ after (Some ws) rest
   going_formula (conj fs) ws rest = going_formulas fs ws rest
   going_formula (disj fs) ws rest = going_formulas fs ws rest
-  going_formula (neg spelled_not f) ws rest = bracket_behind f ws rest ∙ going_formula f (Close ∷ ws) (CloseLeaf ∷ rest)
+  going_formula (neg spelled_not f) ws rest = bracket_behind f ws rest
+      ∙ going_formula f (Close ∷ ws) (CloseLeaf ∷ rest)
   going_formula (neg spelled_ineg f) ws rest =
       bracket_behind f ws rest ∙ going_formula f (Close ∷ ws) (CloseLeaf ∷ rest)
   going_formula (some vs f) ws rest =

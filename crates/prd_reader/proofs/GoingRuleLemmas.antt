@@ -2,10 +2,18 @@
 use Rattle.std.proofs.Common.{◌≡◌, refl, sym, ap, ◌∙◌, List, [], ◌∷◌, ◌++◌, Some}
 use Rattle.prd_reader.specs.declared.leaf.Keyword.TheVariants.{Such, That as ThatKey, Then as ThenKey, Do as DoKey}
 use Rattle.prd_reader.specs.declared.leaf.Leaf.{Leaf}
-use Rattle.prd_reader.specs.declared.leaf.Leaf.TheVariants.{Key, Typed, TypeName, Carets, Open as OpenLeaf, Close as CloseLeaf}
+use Rattle.prd_reader.specs.declared.leaf.Leaf.TheVariants.{Key, Typed, TypeName, Carets, Open as OpenLeaf}
+use Rattle.prd_reader.specs.declared.leaf.Leaf.TheVariants.{Close as CloseLeaf}
 use Rattle.prd_reader.specs.declared.want.Want.{Want}
-use Rattle.prd_reader.specs.declared.want.Want.TheVariants.{Rule, Variable, ForallRest, SuchRest, SuchBracket, Block, Formula, Tail as TailWant, AfterName, Open, Close, Then, Do}
-use Rattle.prd_reader.specs.Trees.{const_int, const_string, const_typed, const_iri, const_curie, const_local, const_true, const_false, name_iri, name_curie, name_local, name_typed_iri, name_typed_local, spell_tail, Vars, spell_vars, spelled_not, spelled_ineg, first_constant, first_variable, first_call, FormulaTree, conj, disj, neg, some, grouped, holds, compared, atom, spell_formula, spell_block, SuchTrees, last_such, more_such, spell_such, RuleTree, for_all, for_all_such, if_then, block, spell_rule}
+use Rattle.prd_reader.specs.declared.want.Want.TheVariants.{Rule, Variable, ForallRest, SuchRest, SuchBracket, Block}
+use Rattle.prd_reader.specs.declared.want.Want.TheVariants.{Formula, Tail as TailWant, AfterName, Open, Close, Then}
+use Rattle.prd_reader.specs.declared.want.Want.TheVariants.{Do}
+use Rattle.prd_reader.specs.Trees.{const_int, const_string, const_typed, const_iri, const_curie, const_local}
+use Rattle.prd_reader.specs.Trees.{const_true, const_false, name_iri, name_curie, name_local, name_typed_iri}
+use Rattle.prd_reader.specs.Trees.{name_typed_local, spell_tail, Vars, spell_vars, spelled_not, spelled_ineg}
+use Rattle.prd_reader.specs.Trees.{first_constant, first_variable, first_call, FormulaTree, conj, disj, neg, some}
+use Rattle.prd_reader.specs.Trees.{grouped, holds, compared, atom, spell_formula, spell_block, SuchTrees, last_such}
+use Rattle.prd_reader.specs.Trees.{more_such, spell_such, RuleTree, for_all, for_all_such, if_then, block, spell_rule}
 use Rattle.prd_reader.specs.Following.{after, named_next}
 use Rattle.prd_reader.proofs.AfterLemmas.{after_parts}
 use Rattle.prd_reader.proofs.GoingTermLemmas.{going_vars}

@@ -1,12 +1,19 @@
 -- What is spelled may come: terms, their lists, pairs, and what begins with a name.
 use Rattle.std.proofs.Common.{◌≡◌, refl, ap, sym, ◌∙◌, ℕ, List, [], ◌∷◌, ◌++◌, Some}
 use Rattle.std.specs.declared.option.Option.{Option}
-use Rattle.prd_reader.specs.declared.leaf.Literal.TheVariants.{Integer, Boolean, String, Iri as IriLiteral, Local as LocalLiteral, OfNoType}
+use Rattle.prd_reader.specs.declared.leaf.Literal.TheVariants.{Integer, Boolean, String, Iri as IriLiteral}
+use Rattle.prd_reader.specs.declared.leaf.Literal.TheVariants.{Local as LocalLiteral, OfNoType}
 use Rattle.prd_reader.specs.declared.leaf.Leaf.{Leaf}
-use Rattle.prd_reader.specs.declared.leaf.Leaf.TheVariants.{Close as CloseLeaf, CloseSquare as CloseSquareLeaf, Arrow as ArrowLeaf, Var}
+use Rattle.prd_reader.specs.declared.leaf.Leaf.TheVariants.{Close as CloseLeaf, CloseSquare as CloseSquareLeaf}
+use Rattle.prd_reader.specs.declared.leaf.Leaf.TheVariants.{Arrow as ArrowLeaf, Var}
 use Rattle.prd_reader.specs.declared.want.Want.{Want}
 use Rattle.prd_reader.specs.declared.want.Want.TheVariants.{Variable, Term, Terms, Pairs, Arrow, Close}
-use Rattle.prd_reader.specs.Trees.{const_int, const_string, const_typed, const_iri, const_curie, const_local, const_true, const_false, NameTree, name_iri, name_curie, name_local, name_typed_iri, name_typed_local, spell_name, func_known, func_unknown, func_undeclared, TermTree, constant, variable, call, TermTrees, no_terms, terms, spell_term, spell_terms, PairTrees, last_pair, pairs, spell_pairs, Vars, one_var, more_vars, spell_vars}
+use Rattle.prd_reader.specs.Trees.{const_int, const_string, const_typed, const_iri, const_curie, const_local}
+use Rattle.prd_reader.specs.Trees.{const_true, const_false, NameTree, name_iri, name_curie, name_local}
+use Rattle.prd_reader.specs.Trees.{name_typed_iri, name_typed_local, spell_name, func_known, func_unknown}
+use Rattle.prd_reader.specs.Trees.{func_undeclared, TermTree, constant, variable, call, TermTrees, no_terms, terms}
+use Rattle.prd_reader.specs.Trees.{spell_term, spell_terms, PairTrees, last_pair, pairs, spell_pairs, Vars, one_var}
+use Rattle.prd_reader.specs.Trees.{more_vars, spell_vars}
 use Rattle.prd_reader.specs.Following.{after, followed, named_next, next}
 use Rattle.prd_reader.proofs.AfterLemmas.{after_parts}
 
@@ -58,7 +65,8 @@ mutual
   going_term (variable v) ws rest = refl
   going_term (call (func_known f) ts) ws rest =
       arguments_end ts ws rest ∙ going_terms ts (Close ∷ ws) (CloseLeaf ∷ rest)
-  going_term (call func_unknown ts) ws rest = arguments_end ts ws rest ∙ going_terms ts (Close ∷ ws) (CloseLeaf ∷ rest)
+  going_term (call func_unknown ts) ws rest = arguments_end ts ws rest
+      ∙ going_terms ts (Close ∷ ws) (CloseLeaf ∷ rest)
   going_term (call func_undeclared ts) ws rest =
       arguments_end ts ws rest ∙ going_terms ts (Close ∷ ws) (CloseLeaf ∷ rest)
 

@@ -9,7 +9,8 @@ use Rattle.rif_terms.specs.declared.builtin.Func.TheVariants.{Concat, StringLeng
 use Rattle.rif_terms.specs.declared.builtin.Pred.{Pred}
 use Rattle.rif_terms.specs.declared.builtin.Pred.TheVariants.{NumericEqual, NumericNotEqual, NumericLessThan}
 use Rattle.rif_terms.specs.declared.builtin.Pred.TheVariants.{NumericLessThanOrEqual, NumericGreaterThan}
-use Rattle.rif_terms.specs.declared.builtin.Pred.TheVariants.{NumericGreaterThanOrEqual, BooleanEqual, BooleanLessThan}
+use Rattle.rif_terms.specs.declared.builtin.Pred.TheVariants.{NumericGreaterThanOrEqual, BooleanEqual}
+use Rattle.rif_terms.specs.declared.builtin.Pred.TheVariants.{BooleanLessThan}
 use Rattle.rif_terms.specs.declared.builtin.Pred.TheVariants.{BooleanGreaterThan, StartsWith, EndsWith, Contains}
 use Rattle.rif_terms.specs.declared.builtin.Pred.TheVariants.{IsLiteralInteger, IsLiteralString, IsLiteralBoolean}
 use Rattle.rif_terms.specs.declared.constant.Const.{Const}
@@ -24,7 +25,8 @@ use Rattle.prd_reader.specs.declared.leaf.Builtin.TheVariants.{Func as FuncBuilt
 use Rattle.prd_reader.specs.declared.leaf.BuiltinName.TheVariants.{Known}
 use Rattle.prd_reader.specs.declared.leaf.Leaf.{Leaf}
 use Rattle.prd_reader.specs.declared.leaf.Leaf.TheVariants.{Int as IntLeaf, Str as StrLeaf, TypeName as TypeLeaf}
-use Rattle.prd_reader.specs.declared.leaf.Leaf.TheVariants.{Iri as IriLeaf, Builtin as BuiltinLeaf, Local as LocalLeaf}
+use Rattle.prd_reader.specs.declared.leaf.Leaf.TheVariants.{Iri as IriLeaf, Builtin as BuiltinLeaf}
+use Rattle.prd_reader.specs.declared.leaf.Leaf.TheVariants.{Local as LocalLeaf}
 use Rattle.prd_reader.specs.Canonical.{const_spelling, func_text, pred_text}
 use Rattle.prd_reader.specs.CanonicalTrees.{const_tree, canonical_name}
 use Rattle.prd_reader.specs.Leaves.{inner, curie_iri, builtin_of, is_type_name, named_leaf, string_leaf}
@@ -70,13 +72,15 @@ lead_const (BoolConst true) gap w more = lead_word True (const_text (BoolConst t
 lead_const (BoolConst false) gap w more = lead_word False (const_text (BoolConst false)) gap refl refl refl more
 lead_const {rest} (Str t) gap w more =
     lead_settled StrKind (const_text (Str t)) gap (StrLeaf t) (const_utf8 (Str t) w) refl
-    (λ front plain. string_alone (unescaped (inner (const_text (Str t)))) rest more.no_type ∙ ap StrLeaf (string_is t))
+    (λ front plain. string_alone (unescaped (inner (const_text (Str t)))) rest more.no_type
+    ∙ ap StrLeaf (string_is t))
     refl more
 lead_const (Iri t) gap w more =
     lead_settled IriKind (const_text (Iri t)) gap (IriLeaf t) (const_utf8 (Iri t) w) refl
     (λ front plain. iri_alone (inner (const_text (Iri t))) front plain ∙ ap IriLeaf (iri_is t)) refl more
 lead_const (Local t) gap w more =
-    lead_settled LocalKind (const_text (Local t)) gap (LocalLeaf t) (const_utf8 (Local t) w) refl (λ front plain. refl)
+    lead_settled LocalKind (const_text (Local t)) gap (LocalLeaf t) (const_utf8 (Local t) w) refl
+    (λ front plain. refl)
     refl more
 lead_const (Fresh k) gap w more = absurd w
 

@@ -14,12 +14,14 @@ use Rattle.prd_reader.specs.Canonical.{rules_spelling, canonical_spelling, actio
 use Rattle.prd_reader.specs.CanonicalTrees.{canonical_block, canonical_such, canonical_rule, canonical_member}
 use Rattle.prd_reader.specs.CanonicalTrees.{canonical_group, canonical_members, around_members, canonical_prefixes}
 use Rattle.prd_reader.specs.CanonicalTrees.{canonical_document}
-use Rattle.prd_reader.specs.Trees.{BlockTree, SuchTrees, last_such, more_such, RuleTree, for_all, for_all_such, if_then}
+use Rattle.prd_reader.specs.Trees.{BlockTree, SuchTrees, last_such, more_such, RuleTree, for_all, for_all_such}
+use Rattle.prd_reader.specs.Trees.{if_then}
 use Rattle.prd_reader.specs.Trees.{block, GroupTree, group, MemberTrees, no_members, rule_member, group_member}
 use Rattle.prd_reader.specs.Trees.{PrefixTrees, no_group, one_group, prefix, DocumentTree, document, spell_document}
 use Rattle.prd_reader.specs.Values.{block_decls, block_actions, such_value, rule_levels, rule_block, rule_names}
 use Rattle.prd_reader.specs.Values.{rule_value, priority_in, group_rules, member_rules, rules_behind, document_value}
-use Rattle.prd_reader.specs.Writable.{IsWritableInt, IsWritableBlock, AreWritableSuch, IsWritableRule, IsWritableGroup}
+use Rattle.prd_reader.specs.Writable.{IsWritableInt, IsWritableBlock, AreWritableSuch, IsWritableRule}
+use Rattle.prd_reader.specs.Writable.{IsWritableGroup}
 use Rattle.prd_reader.specs.Writable.{AreWritableMembers, AreWritablePrefixes, IsWritableDocument}
 use Rattle.prd_reader.proofs.ComingRuleSpelling.{put_block, put_such, put_rule, put_group, put_members}
 use Rattle.prd_reader.proofs.ComingRuleSpelling.{put_document, put_document_alone}
@@ -136,7 +138,8 @@ mutual
 
 lead_no_rules : Lead (rules_spelling []) (Key Document ∷ Open ∷ Close ∷ [])
 lead_no_rules =
-    lead_word Document (codes "Document") joined refl refl refl (lead_opening joined (lead_closing line_feed lead_end))
+    lead_word Document (codes "Document") joined refl refl refl
+    (lead_opening joined (lead_closing line_feed lead_end))
 
 lead_some_rules : (rs : List Rule) (ls : List Leaf) → Lead (groups_spelling rs behind_rules) ls →
     Lead (some_rules_spelling rs) (Key Document ∷ Open ∷ Key Group ∷ Open ∷ ls)

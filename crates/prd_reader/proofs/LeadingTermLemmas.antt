@@ -9,7 +9,8 @@ use Rattle.prd_reader.specs.Canonical.{term_spelling, pair_spelling, frame_spell
 use Rattle.prd_reader.specs.CanonicalTrees.{canonical_term, canonical_terms, canonical_pairs}
 use Rattle.prd_reader.specs.Trees.{TermTree, constant, variable, call, TermTrees, no_terms, terms}
 use Rattle.prd_reader.specs.Trees.{PairTrees, last_pair, pairs, Vars, one_var, more_vars}
-use Rattle.prd_reader.specs.Values.{const_value, func_value, term_value, terms_value, pairs_value, vars_value, place_of}
+use Rattle.prd_reader.specs.Values.{const_value, func_value, term_value, terms_value, pairs_value, vars_value}
+use Rattle.prd_reader.specs.Values.{place_of}
 use Rattle.prd_reader.specs.Writable.{IsWritableTerm, AreWritableTerms, AreWritablePairs, AreWritableVars}
 use Rattle.prd_reader.proofs.ComingSpelling.{put_term, put_terms, put_pairs, put_vars}
 use Rattle.prd_reader.proofs.FoldLemmas.{spelled_const, spelled_var, spelled_call}

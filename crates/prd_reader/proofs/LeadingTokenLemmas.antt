@@ -18,7 +18,8 @@ use Rattle.prd_reader.specs.declared.leaf.Leaf.TheVariants.{Open as OpenLeaf, Cl
 use Rattle.prd_reader.specs.declared.leaf.Leaf.TheVariants.{OpenSquare as OpenSquareLeaf}
 use Rattle.prd_reader.specs.declared.leaf.Leaf.TheVariants.{CloseSquare as CloseSquareLeaf}
 use Rattle.prd_reader.specs.declared.leaf.Leaf.TheVariants.{Hash as HashLeaf, Arrow as ArrowLeaf}
-use Rattle.prd_reader.specs.Canonical.{spelled, word, opening, closing, open_square, close_square, arrow, var_spelling}
+use Rattle.prd_reader.specs.Canonical.{spelled, word, opening, closing, open_square, close_square, arrow}
+use Rattle.prd_reader.specs.Canonical.{var_spelling}
 use Rattle.prd_reader.specs.Leaves.{word_leaf, curie_iri, builtin_of, leaves_from, prefixes_with, is_behind_prefix}
 use Rattle.prd_reader.specs.Values.{place_of}
 use Rattle.prd_reader.specs.Writable.{HasNames, IsWritableVar}

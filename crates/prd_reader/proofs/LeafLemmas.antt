@@ -1,5 +1,6 @@
 -- The leaves of tokens, one after another.
-use Rattle.std.proofs.Common.{◌≡◌, ◌∙◌, sym, ap, refl, ℕ, ◌+◌, ◌-◌, ◌<◌, List, [], ◌∷◌, ◌++◌, length, take, drop, map, append_assoc, get_or, All, Ok, Bool, cond, Some, add-one, drop-cons}
+use Rattle.std.proofs.Common.{◌≡◌, ◌∙◌, sym, ap, refl, ℕ, ◌+◌, ◌-◌, ◌<◌, List, [], ◌∷◌, ◌++◌, length, take, drop, map}
+use Rattle.std.proofs.Common.{append_assoc, get_or, All, Ok, Bool, cond, Some, add-one, drop-cons}
 use Rattle.std.specs.Prelude.{Option}
 use Rattle.std.proofs.lemmas.List.{take_rest}
 use Rattle.rif_lex.specs.declared.token.Kind.{Kind}
@@ -11,11 +12,15 @@ use Rattle.rif_lex.proofs.LexingLemmas.{inputs_are_texts}
 use Rattle.rif_lex.proofs.SpanLemmas.{slices_are_tokens}
 use Rattle.rif_lex.proofs.TextLemmas.{slices_are_texts}
 use Rattle.prd_reader.specs.declared.leaf.Leaf.{Leaf}
-use Rattle.prd_reader.specs.declared.leaf.Leaf.TheVariants.{Key, Builtin as BuiltinLeaf, Carets as CaretsLeaf, Curie as CurieLeaf, Iri as IriLeaf, Open as OpenLeaf, TypeName as TypeLeaf, Word as WordLeaf}
+use Rattle.prd_reader.specs.declared.leaf.Leaf.TheVariants.{Key, Builtin as BuiltinLeaf, Carets as CaretsLeaf}
+use Rattle.prd_reader.specs.declared.leaf.Leaf.TheVariants.{Curie as CurieLeaf, Iri as IriLeaf, Open as OpenLeaf}
+use Rattle.prd_reader.specs.declared.leaf.Leaf.TheVariants.{TypeName as TypeLeaf, Word as WordLeaf}
 use Rattle.prd_reader.specs.declared.leaf.Keyword.TheVariants.{External as ExternalKey, Prefix as PrefixKey}
 use Rattle.prd_reader.specs.declared.behind.Behind.{Behind}
 use Rattle.prd_reader.specs.Prefixes.{Prefixes}
-use Rattle.prd_reader.specs.Leaves.{builtin_of, curie_iri, inner, is_behind_prefix, is_behind_external, is_behind_carets, is_type_name, leaf_of, named_leaf, word_leaf, leaves_from, prefixes_from, prefixes_with}
+use Rattle.prd_reader.specs.Leaves.{builtin_of, curie_iri, inner, is_behind_prefix, is_behind_external}
+use Rattle.prd_reader.specs.Leaves.{is_behind_carets, is_type_name, leaf_of, named_leaf, word_leaf, leaves_from}
+use Rattle.prd_reader.specs.Leaves.{prefixes_from, prefixes_with}
 use Rattle.prd_reader.specs.LeafSteps.{behind, front_from, front_of, IsTokenOf}
 
 front_from-push : (front ls : List Leaf) (l : Leaf) → front_from front (ls ++ l ∷ []) ≡ l ∷ front_from front ls
@@ -130,7 +135,8 @@ declared_given prefixes next slice found l is same =
 pub leaves_next : (found all : List Leaf) (prefixes next : Prefixes) (l : Leaf) (bytes : List ℕ) (ts : List Token)
     (i : ℕ) (d : Token) →
     i < length ts → found ++ leaves_from prefixes (front_from [] found) (map (written bytes) (drop i ts)) ≡ all →
-    l ≡ leaf_of prefixes (front_from [] found) (written bytes (get_or ts i d)) (map (written bytes) (drop (i + 1) ts)) →
+    l ≡ leaf_of prefixes (front_from [] found) (written bytes (get_or ts i d))
+    (map (written bytes) (drop (i + 1) ts)) →
     next ≡ prefixes_with prefixes (front_from [] found) l →
     (found ++ l ∷ []) ++ leaves_from next (front_from [] (found ++ l ∷ [])) (map (written bytes) (drop (i + 1) ts))
     ≡ all

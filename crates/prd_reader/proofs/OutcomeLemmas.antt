@@ -1,5 +1,6 @@
 -- Tokens have one refusal at most, and none where they are a document that is read.
-use Rattle.std.proofs.Common.{◌≡◌, ◌∙◌, ◌≤◌, ◌<◌, ◌+◌, ◌⊎◌, ⊎_elim, refl, sym, ap, subst, ℕ, List, [], ◌∷◌, ◌++◌, append_assoc, length, map, take, drop, take-append-drop, get_or, Some, None, suc, arith}
+use Rattle.std.proofs.Common.{◌≡◌, ◌∙◌, ◌≤◌, ◌<◌, ◌+◌, ◌⊎◌, ⊎_elim, refl, sym, ap, subst, ℕ, List, [], ◌∷◌, ◌++◌}
+use Rattle.std.proofs.Common.{append_assoc, length, map, take, drop, take-append-drop, get_or, Some, None, suc, arith}
 use Rattle.std.proofs.lemmas.List.{length-map, take-take}
 use Rattle.std.specs.declared.option.Option.{Option}
 use Rattle.rif_terms.specs.declared.refusal.Refusal.{Refusal}
@@ -19,10 +20,12 @@ use Rattle.prd_reader.proofs.HaltingLemmas.{less_or_equal}
 front_of_front : (ls : List Leaf) (i j : ℕ) → i ≤ j → IsFront (take j ls) → IsFront (take i ls)
 front_of_front ls i j low front =
     let cut : take i ls ++ drop i (take j ls) ≡ take j ls =
-    ap (λ (xs : List Leaf). xs ++ drop i (take j ls)) (sym (take-take i j ls low)) ∙ take-append-drop i (take j ls) in (
+    ap (λ (xs : List Leaf). xs ++ drop i (take j ls)) (sym (take-take i j ls low))
+    ∙ take-append-drop i (take j ls) in (
       drop i (take j ls) ++ front.0,
       subst IsDocument
-          (ap (λ (xs : List Leaf). xs ++ front.0) (sym cut) ∙ append_assoc (take i ls) (drop i (take j ls)) front.0) front.1,
+          (ap (λ (xs : List Leaf). xs ++ front.0) (sym cut)
+          ∙ append_assoc (take i ls) (drop i (take j ls)) front.0) front.1,
     )
 
 front_of_document : (ls : List Leaf) (i : ℕ) → IsDocument ls → IsFront (take i ls)
@@ -32,7 +35,8 @@ none_or_some : (found : Option Cause) (cause : Cause) → found ≡ None → fou
 none_or_some found cause none some = absurd (cc)
 
 -- nothing decides where the front goes on and no refusal stands
-none_decides : (ls : List Leaf) (place count : ℕ) (cause : Cause) → place < count → IsClear ls count → IsFront (take (place + 1) ls) →
+none_decides : (ls : List Leaf) (place count : ℕ) (cause : Cause) → place < count → IsClear ls count →
+    IsFront (take (place + 1) ls) →
     DecidesAt ls place cause (get_or ls place Close) → ⊥
 none_decides ls place count cause low clear front decides =
     ⊎_elim (λ none. none.0 front) (λ some. none_or_some _ cause (clear place Close low) some.1) decides
@@ -40,7 +44,8 @@ none_decides ls place count cause low clear front decides =
 not_before : (ls : List Leaf) (p q : ℕ) (a b : Cause) → IsRefusedAt ls p a → IsRefusedAt ls q b → p < q → ⊥
 not_before ls p q a b first second low =
     let within = second.within in
-    none_decides ls p q a low second.clear (front_of_front ls (p + 1) q (omega arith) second.front) (first.here Close (omega arith))
+    none_decides ls p q a low second.clear (front_of_front ls (p + 1) q (omega arith) second.front)
+    (first.here Close (omega arith))
 
 same_cause : (found : Option Cause) (a b : Cause) → found ≡ Some a → found ≡ Some b → a ≡ b
 same_cause found a b is at = cc
@@ -52,7 +57,8 @@ one_decides ls p a b l first second =
 
 same_place : (ls : List Leaf) (p : ℕ) (a b : Cause) → IsRefusedAt ls p a → IsRefusedAt ls p b → a ≡ b
 same_place ls p a b first second =
-    ⊎_elim (λ (low : p < length ls). one_decides ls p a b (get_or ls p Close) (first.here Close low) (second.here Close low))
+    ⊎_elim (λ (low : p < length ls). one_decides ls p a b (get_or ls p Close) (first.here Close low)
+    (second.here Close low))
     (λ (all : p ≡ length ls). (first.end all).1 ∙ sym (second.end all).1) (less_or_equal p (length ls) first.within)
 
 three_ways : (p q : ℕ) → (p < q) ⊎ ((q < p) ⊎ (p ≡ q))
@@ -61,7 +67,8 @@ three_ways p q = grind arith
 one_place : (ls : List Leaf) (p q : ℕ) (a b : Cause) → IsRefusedAt ls p a → IsRefusedAt ls q b → p ≡ q
 one_place ls p q a b first second =
     ⊎_elim (λ (low : p < q). absurd (not_before ls p q a b first second low))
-    (λ rest. ⊎_elim (λ (low : q < p). absurd (not_before ls q p b a second first low)) (λ (same : p ≡ q). same) rest) (three_ways p q)
+    (λ rest. ⊎_elim (λ (low : q < p). absurd (not_before ls q p b a second first low)) (λ (same : p ≡ q). same) rest)
+    (three_ways p q)
 
 one_cause : (ls : List Leaf) (p q : ℕ) (a b : Cause) → IsRefusedAt ls p a → IsRefusedAt ls q b → p ≡ q → a ≡ b
 one_cause ls p q a b first second same =
@@ -72,7 +79,8 @@ abbrev refusal_of : List Token → List ℕ → Cause → ℕ → Refusal
 refusal_of tokens bytes cause place = refusal_at cause (line_of bytes tokens place) (column_of bytes tokens place)
 
 -- Tokens have one refusal at most.
-pub one_refusal : (tokens : List Token) (bytes : List ℕ) (a b : Refusal) → IsRefused tokens bytes a → IsRefused tokens bytes b → a ≡ b
+pub one_refusal : (tokens : List Token) (bytes : List ℕ) (a b : Refusal) → IsRefused tokens bytes a →
+    IsRefused tokens bytes b → a ≡ b
 one_refusal tokens bytes a b first second =
     let ls = leaves_of bytes tokens in
     let place = one_place ls first.place second.place first.cause second.cause first.decides second.decides in
@@ -81,7 +89,8 @@ one_refusal tokens bytes a b first second =
     ∙ (ap (refusal_of tokens bytes second.cause) place ∙ sym second.is))
 
 -- each token is a leaf
-leaves_count : (prefixes : Prefixes) (front : List Leaf) (ws : List Written) → length (leaves_from prefixes front ws) ≡ length ws
+leaves_count : (prefixes : Prefixes) (front : List Leaf) (ws : List Written) →
+    length (leaves_from prefixes front ws) ≡ length ws
 leaves_count prefixes front [] = refl
 leaves_count prefixes front (w ∷ ws) =
     let l = leaf_of prefixes front w ws in ap suc (leaves_count (prefixes_with prefixes front l) (l ∷ front) ws)
@@ -89,7 +98,8 @@ leaves_count prefixes front (w ∷ ws) =
 pub count_of_leaves : (bytes : List ℕ) (tokens : List Token) → length (leaves_of bytes tokens) ≡ length tokens
 count_of_leaves bytes tokens = leaves_count [] [] (map (written bytes) tokens) ∙ length-map tokens (written bytes)
 
-not_refused : (ls : List Leaf) (place : ℕ) (cause : Cause) → IsDocument ls → IsClear ls (length ls) → IsRefusedAt ls place cause → ⊥
+not_refused : (ls : List Leaf) (place : ℕ) (cause : Cause) → IsDocument ls → IsClear ls (length ls) →
+    IsRefusedAt ls place cause → ⊥
 not_refused ls place cause doc clear refused =
     ⊎_elim (λ (low : place < length ls).
     none_decides ls place (length ls) cause low clear (front_of_document ls (place + 1) doc) (refused.here Close low))

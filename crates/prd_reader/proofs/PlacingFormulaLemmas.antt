@@ -4,13 +4,24 @@ use Rattle.rif_terms.specs.declared.builtin.Pred.{Pred}
 use Rattle.rif_terms.specs.declared.constant.Const.{Const}
 use Rattle.rif_terms.specs.declared.tree.Term.{Term}
 use Rattle.rif_terms.specs.declared.tree.Formula.{Formula}
-use Rattle.rif_terms.specs.declared.tree.Formula.TheVariants.{And, Or, Not, Exists, Equal, Member, Frame, Atom, Holds, rolls-And, rolls-Or, rolls-Not, rolls-Exists, rolls-Equal, rolls-Member, rolls-Frame, rolls-Atom, rolls-Holds}
-use Rattle.rif_terms.specs.declared.tree.Formula.TheOpen.{And as AndLayer, Or as OrLayer, Not as NotLayer, Exists as ExistsLayer, Equal as EqualLayer, Member as MemberLayer, Frame as FrameLayer, Atom as AtomLayer, Holds as HoldsLayer}
+use Rattle.rif_terms.specs.declared.tree.Formula.TheVariants.{And, Or, Not, Exists, Equal, Member, Frame, Atom, Holds}
+use Rattle.rif_terms.specs.declared.tree.Formula.TheVariants.{rolls-And, rolls-Or, rolls-Not, rolls-Exists}
+use Rattle.rif_terms.specs.declared.tree.Formula.TheVariants.{rolls-Equal, rolls-Member, rolls-Frame, rolls-Atom}
+use Rattle.rif_terms.specs.declared.tree.Formula.TheVariants.{rolls-Holds}
+use Rattle.rif_terms.specs.declared.tree.Formula.TheOpen.{And as AndLayer, Or as OrLayer, Not as NotLayer}
+use Rattle.rif_terms.specs.declared.tree.Formula.TheOpen.{Exists as ExistsLayer, Equal as EqualLayer}
+use Rattle.rif_terms.specs.declared.tree.Formula.TheOpen.{Member as MemberLayer, Frame as FrameLayer}
+use Rattle.rif_terms.specs.declared.tree.Formula.TheOpen.{Atom as AtomLayer, Holds as HoldsLayer}
 use Rattle.rif_terms.specs.declared.tree.Formula.TheFolds.{fold-roll-Formula}
 use Rattle.prd_reader.specs.declared.leaf.Leaf.TheVariants.{Open, Close}
-use Rattle.prd_reader.specs.Limits.{most_of, term_needs, terms_need, pairs_need, vars_need, needs_in, formula_needs, formulas_need}
-use Rattle.prd_reader.specs.Trees.{const_of_name, spell_const, spell_term, spell_terms, Tail, equals, member_of, with_pairs, spell_tail, spell_vars, term_of_first, FormulaTree, conj, disj, neg, some, grouped, holds, compared, atom, spell_formula, FormulaTrees, no_formulas, formulas, spell_formulas, SuchTrees, last_such, more_such, spell_such}
-use Rattle.prd_reader.specs.Values.{name_value, term_value, terms_value, pairs_value, vars_value, tail_value, pred_value, formula_value, formulas_value, such_value}
+use Rattle.prd_reader.specs.Limits.{most_of, term_needs, terms_need, pairs_need, vars_need, needs_in, formula_needs}
+use Rattle.prd_reader.specs.Limits.{formulas_need}
+use Rattle.prd_reader.specs.Trees.{const_of_name, spell_const, spell_term, spell_terms, Tail, equals, member_of}
+use Rattle.prd_reader.specs.Trees.{with_pairs, spell_tail, spell_vars, term_of_first, FormulaTree, conj, disj, neg}
+use Rattle.prd_reader.specs.Trees.{some, grouped, holds, compared, atom, spell_formula, FormulaTrees, no_formulas}
+use Rattle.prd_reader.specs.Trees.{formulas, spell_formulas, SuchTrees, last_such, more_such, spell_such}
+use Rattle.prd_reader.specs.Values.{name_value, term_value, terms_value, pairs_value, vars_value, tail_value}
+use Rattle.prd_reader.specs.Values.{pred_value, formula_value, formulas_value, such_value}
 use Rattle.prd_reader.proofs.PlacingNameLemmas.{Known, known_front, known_back}
 use Rattle.prd_reader.proofs.PlacingTermLemmas.{term_place, terms_place, pairs_place, vars_place}
 
@@ -36,7 +47,8 @@ equal_needs t u = ap formula_needs (sym (rolls-Equal t u)) ∙ fold-roll-Formula
 pub member_needs : (t u : Term) → formula_needs (Member t u) ≡ max (term_needs t) (term_needs u)
 member_needs t u = ap formula_needs (sym (rolls-Member t u)) ∙ fold-roll-Formula ℕ needs_in (MemberLayer t u)
 
-pub frame_needs : (t : Term) (ps : List (Term × Term)) → formula_needs (Frame t ps) ≡ max (term_needs t) (pairs_need ps)
+pub frame_needs : (t : Term) (ps : List (Term × Term)) →
+    formula_needs (Frame t ps) ≡ max (term_needs t) (pairs_need ps)
 frame_needs t ps = ap formula_needs (sym (rolls-Frame t ps)) ∙ fold-roll-Formula ℕ needs_in (FrameLayer t ps)
 
 pub atom_needs : (p : Const) (ts : List Term) → formula_needs (Atom p ts) ≡ terms_need ts

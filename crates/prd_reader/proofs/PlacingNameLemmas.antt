@@ -1,5 +1,6 @@
 -- The variables among leaves are known to the names behind them, each at a place of its own.
-use Rattle.std.proofs.Common.{◌≡◌, ◌≤◌, ◌||◌, ℕ, suc, Bool, true, false, List, [], ◌∷◌, ◌++◌, refl, ap, ◌∙◌, arith, length, bytes_eq, if◌then◌else◌, rules}
+use Rattle.std.proofs.Common.{◌≡◌, ◌≤◌, ◌||◌, ℕ, suc, Bool, true, false, List, [], ◌∷◌, ◌++◌, refl, ap, ◌∙◌, arith}
+use Rattle.std.proofs.Common.{length, bytes_eq, if◌then◌else◌, rules}
 use Rattle.std.proofs.lemmas.Slice.Eq.{bytes_eq-Decides}
 use Rattle.std.proofs.lemmas.List.Folds.{list_any-append}
 use Rattle.prd_reader.specs.declared.leaf.Leaf.{Leaf}
@@ -23,7 +24,8 @@ place_next : (b : Bool) (rest : Bool) (place many : ℕ) → (b || rest) ≡ tru
 place_next true rest place many h more = omega arith
 place_next false rest place many h more = omega (arith, more h)
 
-pub place_below : (names : List (List ℕ)) (v : List ℕ) → has_name names v ≡ true → suc (place_of names v) ≤ length names
+pub place_below : (names : List (List ℕ)) (v : List ℕ) → has_name names v ≡ true →
+    suc (place_of names v) ≤ length names
 place_below [] v h = cc
 place_below (n ∷ ns) v h =
     place_next (bytes_eq n v) (has_name ns v) (place_of ns v) (length ns) h (λ e. place_below ns v e)

@@ -2,9 +2,19 @@
 use Rattle.std.proofs.Common.{◌≤◌, ℕ, ℤ, pos, List, [], ◌∷◌, ◌++◌, arith, length}
 use Rattle.rif_terms.specs.declared.rule.Rule.{Rule}
 use Rattle.prd_reader.specs.declared.leaf.Leaf.TheVariants.{Var, Open, Close, OpenSquare, CloseSquare, Hash, Arrow}
-use Rattle.prd_reader.specs.Limits.{levels_need, condition_needs, decls_need, target_needs, action_needs, actions_need, KeepsRulePlaces, KeepRulePlaces, KeepsPlaces}
-use Rattle.prd_reader.specs.Trees.{const_of_name, spell_const, spell_term, spell_terms, spell_pairs, Vars, spell_vars, spell_formula, SuchTrees, spell_such, TargetTree, target_member, target_frame, target_atom, spell_target, ActionTree, assert, retract, retract_slot, retract_object, modify, spell_action, ActionTrees, last_action, actions, spell_actions, BlockTree, acts, new_object, slot_value, spell_block, RuleTree, for_all, for_all_such, if_then, block, spell_rule, GroupTree, group, MemberTrees, no_members, rule_member, group_member, PrefixTrees, no_group, one_group, prefix, DocumentTree, document}
-use Rattle.prd_reader.specs.Values.{target_value, action_value, actions_value, block_decls, block_actions, rule_levels, rule_condition, rule_block, rule_names, rule_value, priority_in, group_rules, member_rules, rules_behind, document_value}
+use Rattle.prd_reader.specs.Limits.{levels_need, condition_needs, decls_need, target_needs, action_needs}
+use Rattle.prd_reader.specs.Limits.{actions_need, KeepsRulePlaces, KeepRulePlaces, KeepsPlaces}
+use Rattle.prd_reader.specs.Trees.{const_of_name, spell_const, spell_term, spell_terms, spell_pairs, Vars, spell_vars}
+use Rattle.prd_reader.specs.Trees.{spell_formula, SuchTrees, spell_such, TargetTree, target_member, target_frame}
+use Rattle.prd_reader.specs.Trees.{target_atom, spell_target, ActionTree, assert, retract, retract_slot}
+use Rattle.prd_reader.specs.Trees.{retract_object, modify, spell_action, ActionTrees, last_action, actions}
+use Rattle.prd_reader.specs.Trees.{spell_actions, BlockTree, acts, new_object, slot_value, spell_block, RuleTree}
+use Rattle.prd_reader.specs.Trees.{for_all, for_all_such, if_then, block, spell_rule, GroupTree, group, MemberTrees}
+use Rattle.prd_reader.specs.Trees.{no_members, rule_member, group_member, PrefixTrees, no_group, one_group, prefix}
+use Rattle.prd_reader.specs.Trees.{DocumentTree, document}
+use Rattle.prd_reader.specs.Values.{target_value, action_value, actions_value, block_decls, block_actions}
+use Rattle.prd_reader.specs.Values.{rule_levels, rule_condition, rule_block, rule_names, rule_value, priority_in}
+use Rattle.prd_reader.specs.Values.{group_rules, member_rules, rules_behind, document_value}
 use Rattle.prd_reader.proofs.PlacingNameLemmas.{Known, known_front, known_back, place_below, all_known}
 use Rattle.prd_reader.proofs.PlacingTermLemmas.{term_place, terms_place, pairs_place, vars_place}
 use Rattle.prd_reader.proofs.PlacingFormulaLemmas.{formula_place, such_place}
@@ -27,7 +37,8 @@ target_place names (target_atom n ts) known =
 action_place : (names : List (List ℕ)) (x : ActionTree) → Known names (spell_action x) →
     action_needs (action_value names x) ≤ length names
 action_place names (assert t) known = target_place names t (known_front names (spell_target t) (Close ∷ []) known.1.1)
-action_place names (retract t) known = target_place names t (known_front names (spell_target t) (Close ∷ []) known.1.1)
+action_place names (retract t) known =
+    target_place names t (known_front names (spell_target t) (Close ∷ []) known.1.1)
 action_place names (retract_slot o s) known =
     let more = known_back names (spell_term o) (spell_term s ++ Close ∷ []) known.1.1 in
     omega (

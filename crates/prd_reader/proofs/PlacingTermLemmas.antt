@@ -3,13 +3,17 @@ use Rattle.std.proofs.Common.{◌≡◌, ◌≤◌, max, ℕ, suc, List, [], ◌
 use Rattle.rif_terms.specs.declared.builtin.Func.{Func}
 use Rattle.rif_terms.specs.declared.constant.Const.{Const}
 use Rattle.rif_terms.specs.declared.tree.Term.{Term}
-use Rattle.rif_terms.specs.declared.tree.Term.TheVariants.{Const as ConstTerm, Var as VarTerm, Call, rolls-Const, rolls-Var, rolls-Call}
+use Rattle.rif_terms.specs.declared.tree.Term.TheVariants.{Const as ConstTerm, Var as VarTerm, Call, rolls-Const}
+use Rattle.rif_terms.specs.declared.tree.Term.TheVariants.{rolls-Var, rolls-Call}
 use Rattle.rif_terms.specs.declared.tree.Term.TheOpen.{Const as ConstLayer, Var as VarLayer, Call as CallLayer}
 use Rattle.rif_terms.specs.declared.tree.Term.TheFolds.{fold-roll-Term}
 use Rattle.prd_reader.specs.declared.leaf.Leaf.TheVariants.{Close, CloseSquare, Arrow}
 use Rattle.prd_reader.specs.Limits.{most_of, needed_in, term_needs, terms_need, pairs_need, vars_need}
-use Rattle.prd_reader.specs.Trees.{TermTree, constant, variable, call, TermTrees, no_terms, terms, spell_term, spell_terms, PairTrees, last_pair, pairs, spell_pairs, Vars, one_var, more_vars, spell_vars}
-use Rattle.prd_reader.specs.Values.{const_value, func_value, term_value, terms_value, pairs_value, vars_value, place_of}
+use Rattle.prd_reader.specs.Trees.{TermTree, constant, variable, call, TermTrees, no_terms, terms, spell_term}
+use Rattle.prd_reader.specs.Trees.{spell_terms, PairTrees, last_pair, pairs, spell_pairs, Vars, one_var, more_vars}
+use Rattle.prd_reader.specs.Trees.{spell_vars}
+use Rattle.prd_reader.specs.Values.{const_value, func_value, term_value, terms_value, pairs_value, vars_value}
+use Rattle.prd_reader.specs.Values.{place_of}
 use Rattle.prd_reader.proofs.PlacingNameLemmas.{Known, known_front, known_back, place_below}
 
 most_needed : (ts : List Term) → most_of (map term_needs ts) ≡ terms_need ts
@@ -23,7 +27,8 @@ pub var_needs : (v : ℕ) → term_needs (VarTerm v) ≡ suc v
 var_needs v = ap term_needs (sym (rolls-Var v)) ∙ fold-roll-Term ℕ needed_in (VarLayer v)
 
 pub call_needs : (f : Func) (ts : List Term) → term_needs (Call f ts) ≡ terms_need ts
-call_needs f ts = ap term_needs (sym (rolls-Call f ts)) ∙ (fold-roll-Term ℕ needed_in (CallLayer f ts) ∙ most_needed ts)
+call_needs f ts = ap term_needs (sym (rolls-Call f ts))
+    ∙ (fold-roll-Term ℕ needed_in (CallLayer f ts) ∙ most_needed ts)
 
 mutual
   pub term_place : (names : List (List ℕ)) (t : TermTree) → Known names (spell_term t) →

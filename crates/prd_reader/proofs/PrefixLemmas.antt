@@ -2,11 +2,28 @@
 -- alone.
 use Rattle.std.proofs.Common.{◌≡◌, ◌∙◌, sym, ap, refl, Bool, true, false, cond, List, [], ◌∷◌, ◌++◌}
 use Rattle.prd_reader.specs.declared.leaf.Leaf.{Leaf}
-use Rattle.prd_reader.specs.declared.leaf.Leaf.TheVariants.{Key, Word, Iri, Var, Open, Close, OpenSquare, CloseSquare, Hash, Arrow}
+use Rattle.prd_reader.specs.declared.leaf.Leaf.TheVariants.{Key, Word, Iri, Var, Open, Close, OpenSquare, CloseSquare}
+use Rattle.prd_reader.specs.declared.leaf.Leaf.TheVariants.{Hash, Arrow}
 use Rattle.prd_reader.specs.declared.leaf.Keyword.TheVariants.{Document, Prefix, Such, That, Then, Do}
 use Rattle.prd_reader.specs.Prefixes.{Prefixes, with_prefix}
 use Rattle.prd_reader.specs.Leaves.{prefixes_from, prefixes_with}
-use Rattle.prd_reader.specs.Trees.{ConstTree, const_int, const_string, const_typed, const_iri, const_curie, const_local, const_true, const_false, spell_const, const_of_name, spell_name, func_known, func_unknown, func_undeclared, TermTree, constant, variable, call, TermTrees, no_terms, terms, spell_term, spell_terms, PairTrees, last_pair, pairs, spell_pairs, Tail, equals, member_of, with_pairs, spell_tail, Vars, one_var, more_vars, spell_vars, spelled_not, spelled_ineg, term_of_first, pred_known, pred_unknown, pred_undeclared, FormulaTree, conj, disj, neg, some, grouped, holds, compared, atom, FormulaTrees, no_formulas, formulas, spell_formula, spell_formulas, TargetTree, target_member, target_frame, target_atom, spell_target, ActionTree, assert, retract, retract_slot, retract_object, modify, spell_action, ActionTrees, last_action, actions, spell_actions, BlockTree, acts, new_object, slot_value, spell_block, SuchTrees, last_such, more_such, spell_such, RuleTree, for_all, for_all_such, if_then, block, spell_rule, StrategyTree, no_strategy, strategy_iri, strategy_curie, spell_strategy, PriorityTree, no_priority, priority, spell_priority, GroupTree, group, MemberTrees, no_members, rule_member, group_member, spell_group, spell_members, PrefixTrees, no_group, one_group, prefix, spell_prefixes, DocumentTree, document, spell_document}
+use Rattle.prd_reader.specs.Trees.{ConstTree, const_int, const_string, const_typed, const_iri, const_curie}
+use Rattle.prd_reader.specs.Trees.{const_local, const_true, const_false, spell_const, const_of_name, spell_name}
+use Rattle.prd_reader.specs.Trees.{func_known, func_unknown, func_undeclared, TermTree, constant, variable, call}
+use Rattle.prd_reader.specs.Trees.{TermTrees, no_terms, terms, spell_term, spell_terms, PairTrees, last_pair, pairs}
+use Rattle.prd_reader.specs.Trees.{spell_pairs, Tail, equals, member_of, with_pairs, spell_tail, Vars, one_var}
+use Rattle.prd_reader.specs.Trees.{more_vars, spell_vars, spelled_not, spelled_ineg, term_of_first, pred_known}
+use Rattle.prd_reader.specs.Trees.{pred_unknown, pred_undeclared, FormulaTree, conj, disj, neg, some, grouped, holds}
+use Rattle.prd_reader.specs.Trees.{compared, atom, FormulaTrees, no_formulas, formulas, spell_formula, spell_formulas}
+use Rattle.prd_reader.specs.Trees.{TargetTree, target_member, target_frame, target_atom, spell_target, ActionTree}
+use Rattle.prd_reader.specs.Trees.{assert, retract, retract_slot, retract_object, modify, spell_action, ActionTrees}
+use Rattle.prd_reader.specs.Trees.{last_action, actions, spell_actions, BlockTree, acts, new_object, slot_value}
+use Rattle.prd_reader.specs.Trees.{spell_block, SuchTrees, last_such, more_such, spell_such, RuleTree, for_all}
+use Rattle.prd_reader.specs.Trees.{for_all_such, if_then, block, spell_rule, StrategyTree, no_strategy, strategy_iri}
+use Rattle.prd_reader.specs.Trees.{strategy_curie, spell_strategy, PriorityTree, no_priority, priority}
+use Rattle.prd_reader.specs.Trees.{spell_priority, GroupTree, group, MemberTrees, no_members, rule_member}
+use Rattle.prd_reader.specs.Trees.{group_member, spell_group, spell_members, PrefixTrees, no_group, one_group, prefix}
+use Rattle.prd_reader.specs.Trees.{spell_prefixes, DocumentTree, document, spell_document}
 use Rattle.prd_reader.specs.Values.{prefixes_behind, document_prefixes}
 
 abbrev is_word : Leaf → Bool
@@ -121,7 +138,8 @@ in_rule (for_all vs r) =
     (in_rule r) refl)
 in_rule (for_all_such vs fs r) =
     join (spell_vars vs) (Key Such ∷ Key That ∷ (spell_such fs ++ (spell_rule r ++ Close ∷ []))) (in_vars vs)
-    (join (spell_such fs) (spell_rule r ++ Close ∷ []) (in_such fs) (join (spell_rule r) (Close ∷ []) (in_rule r) refl))
+    (join (spell_such fs) (spell_rule r ++ Close ∷ []) (in_such fs)
+    (join (spell_rule r) (Close ∷ []) (in_rule r) refl))
 in_rule (if_then f b) = join (spell_formula f) (Key Then ∷ Key Do ∷ Open ∷ spell_block b) (in_formula f) (in_block b)
 in_rule (block b) = in_block b
 

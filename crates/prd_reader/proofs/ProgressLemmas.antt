@@ -2,11 +2,15 @@
 use Rattle.std.proofs.Common.{◌≡◌, ◌∙◌, refl, ap, ℕ, Bool, List, [], ◌∷◌, length, Some, None, suc, pred}
 use Rattle.std.specs.Prelude.{if◌then◌else◌}
 use Rattle.std.specs.declared.option.Option.{Option}
-use Rattle.prd_reader.specs.declared.leaf.Literal.TheVariants.{Integer, Boolean, String, Iri as IriLiteral, Local as LocalLiteral, OfNoType}
+use Rattle.prd_reader.specs.declared.leaf.Literal.TheVariants.{Integer, Boolean, String, Iri as IriLiteral}
+use Rattle.prd_reader.specs.declared.leaf.Literal.TheVariants.{Local as LocalLiteral, OfNoType}
 use Rattle.prd_reader.specs.declared.leaf.Leaf.{Leaf}
-use Rattle.prd_reader.specs.declared.leaf.Leaf.TheVariants.{Key, LeftOut, Word, Int, Str, Typed, Misspelled, TypeName, Iri, Curie, Builtin, Local, Var, Open, Close, OpenSquare, CloseSquare, Equal, Hash, Arrow, Carets}
+use Rattle.prd_reader.specs.declared.leaf.Leaf.TheVariants.{Key, LeftOut, Word, Int, Str, Typed, Misspelled, TypeName}
+use Rattle.prd_reader.specs.declared.leaf.Leaf.TheVariants.{Iri, Curie, Builtin, Local, Var, Open, Close, OpenSquare}
+use Rattle.prd_reader.specs.declared.leaf.Leaf.TheVariants.{CloseSquare, Equal, Hash, Arrow, Carets}
 use Rattle.prd_reader.specs.declared.progress.Bracket.{Bracket}
-use Rattle.prd_reader.specs.Progress.{Progress, Counts, brackets_with, closed, counts_with, ends_rule, head_with, is_new_rule, named_with, names_ended, progress_with, rule_at, rule_with}
+use Rattle.prd_reader.specs.Progress.{Progress, Counts, brackets_with, closed, counts_with, ends_rule, head_with}
+use Rattle.prd_reader.specs.Progress.{is_new_rule, named_with, names_ended, progress_with, rule_at, rule_with}
 use Rattle.prd_reader.specs.Reached.{ends_at, name_with, names_given, rule_from, rule_kept}
 
 abbrev progress_made : List Bracket → Leaf → Bool → Bool → ℕ → Option Counts → Progress
@@ -58,13 +62,18 @@ names_are bs None l = refl
 names_are bs (Some c) l = ap (λ (b : Bool). if b then c.names ∷ [] else []) (ends_is bs c l)
 
 at_is : (p : Progress) (l : Leaf) → rule_from p.rule (length p.brackets) l ≡ rule_at p l
-at_is p l = elim p.rule as (λ o. rule_from o (length p.brackets) l ≡ rule_at (record p { rule = o }) l) [ Some c ↦ refl | None ↦ refl ]
+at_is p l = elim p.rule as (λ o. rule_from o (length p.brackets) l
+    ≡ rule_at (record p { rule = o }) l) [ Some c ↦ refl | None ↦ refl ]
 
-pub names_ended_is : (p : Progress) (l : Leaf) → names_given (pred (length p.brackets)) (rule_from p.rule (length p.brackets) l) l ≡ names_ended p l
-names_ended_is p l = ap (λ (o : Option Counts). names_given (pred (length p.brackets)) o l) (at_is p l) ∙ names_are p.brackets (rule_at p l) l
+pub names_ended_is : (p : Progress) (l : Leaf) →
+    names_given (pred (length p.brackets)) (rule_from p.rule (length p.brackets) l) l ≡ names_ended p l
+names_ended_is p l = ap (λ (o : Option Counts). names_given (pred (length p.brackets)) o l) (at_is p l)
+    ∙ names_are p.brackets (rule_at p l) l
 
-pub rule_with_is : (p : Progress) (l : Leaf) → rule_kept (pred (length p.brackets)) p.named (rule_from p.rule (length p.brackets) l) l ≡ rule_with p l
-rule_with_is p l = ap (λ (o : Option Counts). rule_kept (pred (length p.brackets)) p.named o l) (at_is p l) ∙ rule_is p.brackets p.named (rule_at p l) l
+pub rule_with_is : (p : Progress) (l : Leaf) →
+    rule_kept (pred (length p.brackets)) p.named (rule_from p.rule (length p.brackets) l) l ≡ rule_with p l
+rule_with_is p l = ap (λ (o : Option Counts). rule_kept (pred (length p.brackets)) p.named o l) (at_is p l)
+    ∙ rule_is p.brackets p.named (rule_at p l) l
 
 -- the parts that the code makes are those of the progress behind the leaf
 pub made_is : (p : Progress) (l : Leaf) (b : List Bracket) (h n : Bool) (k : ℕ) (o : Option Counts) →
@@ -78,6 +87,8 @@ made_is p l b h n k o eb eh en ek eo =
     ap (λ (x : List Bracket). progress_made x l h n k o) eb
     ∙ (ap (λ (x : Bool). progress_made (brackets_with p.brackets p.last l) l x n k o) eh
     ∙ (ap (λ (x : Bool). progress_made (brackets_with p.brackets p.last l) l (head_with p.in_head l) x k o) fn
-    ∙ (ap (λ (x : ℕ). progress_made (brackets_with p.brackets p.last l) l (head_with p.in_head l) (named_with p l) x o) ek
-    ∙ ap (λ (x : Option Counts). progress_made (brackets_with p.brackets p.last l) l (head_with p.in_head l) (named_with p l)
+    ∙ (ap (λ (x : ℕ). progress_made (brackets_with p.brackets p.last l) l (head_with p.in_head l)
+    (named_with p l) x o) ek
+    ∙ ap (λ (x : Option Counts). progress_made (brackets_with p.brackets p.last l) l (head_with p.in_head l)
+    (named_with p l)
     (if is_new_rule p l then suc p.rules else p.rules) x) fo)))

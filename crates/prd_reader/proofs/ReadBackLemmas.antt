@@ -11,7 +11,8 @@ use Rattle.prd_reader.specs.CanonicalTrees.{around_members, canonical_document, 
 use Rattle.prd_reader.specs.Leaves.{leaves_from, leaves_of}
 use Rattle.prd_reader.specs.ReadBack.{CanonicalIsReadBack, IsReadBack, IsShallow}
 use Rattle.prd_reader.specs.Refusals.{IsClear}
-use Rattle.prd_reader.specs.Trees.{MemberTrees, no_members, rule_member, group_member, PrefixTrees, no_group, one_group}
+use Rattle.prd_reader.specs.Trees.{MemberTrees, no_members, rule_member, group_member, PrefixTrees, no_group}
+use Rattle.prd_reader.specs.Trees.{one_group}
 use Rattle.prd_reader.specs.Trees.{prefix, DocumentTree, document, spell_document}
 use Rattle.prd_reader.specs.Values.{document_prefixes, document_value}
 use Rattle.prd_reader.specs.Writable.{IsWritableDocument}

@@ -1,5 +1,6 @@
 -- Where the code stops is where a refusal decides, as far as the grammar is followed.
-use Rattle.std.proofs.Common.{◌≡◌, ◌∙◌, ◌+◌, inl, inr, ⊎_elim, sym, ap, ℕ, List, [], ◌++◌, length, take, Some, None, arith}
+use Rattle.std.proofs.Common.{◌≡◌, ◌∙◌, ◌+◌, inl, inr, ⊎_elim, sym, ap, ℕ, List, [], ◌++◌, length, take, Some, None}
+use Rattle.std.proofs.Common.{arith}
 use Rattle.std.proofs.lemmas.List.{take_all}
 use Rattle.std.specs.declared.option.Option.{Option}
 use Rattle.prd_reader.specs.declared.cause.Cause.{Cause}
@@ -36,7 +37,8 @@ no_front laws ls none front =
 ends_at_none : (state : Option (List Want)) (stack : List Want) → state ≡ Some stack → state ≡ Some [] → stack ≡ []
 ends_at_none state stack is none = cc
 
-pub refused : GrammarIsFollowed → (ls : List Leaf) (place : ℕ) (cause : Cause) → Halts ls place cause → IsRefusedAt ls place cause
+pub refused : GrammarIsFollowed → (ls : List Leaf) (place : ℕ) (cause : Cause) → Halts ls place cause →
+    IsRefusedAt ls place cause
 refused laws ls place cause halts = record {
   within = halts.within;
   front = front_from laws (take place ls) halts.front.0 halts.front.1;
@@ -45,7 +47,8 @@ refused laws ls place cause halts = record {
       (λ some. inr (front_from laws (take (place + 1) ls) some.0.0 some.0.1, some.1)) (halts.here d inside);
   end = λ all. (
     (λ doc. halts.front.2 all (ends_at_none (after at_first ls) halts.front.0
-        (sym (ap (after at_first) (take_all place ls (omega (arith, all)))) ∙ halts.front.1) (document_to laws ls doc))),
+        (sym (ap (after at_first) (take_all place ls (omega (arith, all))))
+        ∙ halts.front.1) (document_to laws ls doc))),
     halts.end all,
   );
 }

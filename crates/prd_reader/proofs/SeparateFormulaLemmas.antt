@@ -1,15 +1,29 @@
 -- The canonical spelling of formulas is tokens of which each ends before the next.
 use Rattle.std.proofs.Common.{ℕ, List, ◌∷◌, map, refl, sym, subst, codes}
 use Rattle.rif_terms.specs.declared.builtin.Pred.{Pred}
-use Rattle.rif_terms.specs.declared.builtin.Pred.TheVariants.{NumericEqual, NumericNotEqual, NumericLessThan, NumericLessThanOrEqual, NumericGreaterThan, NumericGreaterThanOrEqual, BooleanEqual, BooleanLessThan, BooleanGreaterThan, StartsWith, EndsWith, Contains, IsLiteralInteger, IsLiteralString, IsLiteralBoolean}
+use Rattle.rif_terms.specs.declared.builtin.Pred.TheVariants.{NumericEqual, NumericNotEqual, NumericLessThan}
+use Rattle.rif_terms.specs.declared.builtin.Pred.TheVariants.{NumericLessThanOrEqual, NumericGreaterThan}
+use Rattle.rif_terms.specs.declared.builtin.Pred.TheVariants.{NumericGreaterThanOrEqual, BooleanEqual}
+use Rattle.rif_terms.specs.declared.builtin.Pred.TheVariants.{BooleanLessThan, BooleanGreaterThan, StartsWith}
+use Rattle.rif_terms.specs.declared.builtin.Pred.TheVariants.{EndsWith, Contains, IsLiteralInteger, IsLiteralString}
+use Rattle.rif_terms.specs.declared.builtin.Pred.TheVariants.{IsLiteralBoolean}
 use Rattle.rif_lex.specs.declared.token.Kind.TheVariants.{Curie, Hash, Equal as EqualSign}
 use Rattle.rif_lex.specs.Spelling.{IsToken, Gap, joined, space, Spelled, AreSeparate}
-use Rattle.prd_reader.specs.Canonical.{spelled, opening, closing, open_square, close_square, arrow, gap_before, listed, spaced, var_spelling, pred_text, term_spelling, pair_spelling, frame_spelling, member_spelling, equal_spelling, atom_spelling, formula_spelling}
-use Rattle.prd_reader.specs.Trees.{NameTree, TermTree, TermTrees, PairTrees, last_pair, pairs, equals, member_of, with_pairs, Vars, one_var, more_vars, term_of_first, FormulaTree, conj, disj, neg, some, grouped, holds, compared, atom, FormulaTrees, no_formulas, formulas}
-use Rattle.prd_reader.specs.Values.{name_value, pred_value, term_value, terms_value, pairs_value, vars_value, formula_value, formulas_value, place_of}
-use Rattle.prd_reader.specs.Writable.{Ends, IsWritableName, IsWritableTerm, AreWritableTerms, AreWritablePairs, AreWritableVars, IsWritableFormula, AreWritableFormulas}
-use Rattle.prd_reader.proofs.FoldLemmas.{spelled_and, spelled_or, spelled_not, spelled_exists, spelled_equal, spelled_member, spelled_frame, spelled_atom, spelled_holds}
-use Rattle.prd_reader.proofs.SeparateLemmas.{separate_opening, separate_const, separate_var, separate_external, separate_term, separate_terms, ends_in_list}
+use Rattle.prd_reader.specs.Canonical.{spelled, opening, closing, open_square, close_square, arrow, gap_before}
+use Rattle.prd_reader.specs.Canonical.{listed, spaced, var_spelling, pred_text, term_spelling, pair_spelling}
+use Rattle.prd_reader.specs.Canonical.{frame_spelling, member_spelling, equal_spelling, atom_spelling}
+use Rattle.prd_reader.specs.Canonical.{formula_spelling}
+use Rattle.prd_reader.specs.Trees.{NameTree, TermTree, TermTrees, PairTrees, last_pair, pairs, equals, member_of}
+use Rattle.prd_reader.specs.Trees.{with_pairs, Vars, one_var, more_vars, term_of_first, FormulaTree, conj, disj, neg}
+use Rattle.prd_reader.specs.Trees.{some, grouped, holds, compared, atom, FormulaTrees, no_formulas, formulas}
+use Rattle.prd_reader.specs.Values.{name_value, pred_value, term_value, terms_value, pairs_value, vars_value}
+use Rattle.prd_reader.specs.Values.{formula_value, formulas_value, place_of}
+use Rattle.prd_reader.specs.Writable.{Ends, IsWritableName, IsWritableTerm, AreWritableTerms, AreWritablePairs}
+use Rattle.prd_reader.specs.Writable.{AreWritableVars, IsWritableFormula, AreWritableFormulas}
+use Rattle.prd_reader.proofs.FoldLemmas.{spelled_and, spelled_or, spelled_not, spelled_exists, spelled_equal}
+use Rattle.prd_reader.proofs.FoldLemmas.{spelled_member, spelled_frame, spelled_atom, spelled_holds}
+use Rattle.prd_reader.proofs.SeparateLemmas.{separate_opening, separate_const, separate_var, separate_external}
+use Rattle.prd_reader.proofs.SeparateLemmas.{separate_term, separate_terms, ends_in_list}
 
 pred_token : (p : Pred) → IsToken (record { kind = Curie; text = pred_text p })
 pred_token NumericEqual = refl
@@ -48,21 +62,24 @@ pub separate_frame : (names : List (List ℕ)) (o : TermTree) (ps : PairTrees) (
     IsWritableTerm names o → AreWritablePairs names ps → AreSeparate rest →
     AreSeparate (frame_spelling names (term_value names o) (pairs_value names ps) gap rest)
 separate_frame names o ps gap rest wo wp h =
-    separate_term names o joined (open_square ∷ listed (map (pair_spelling names) (pairs_value names ps)) (close_square gap ∷ rest)) wo
+    separate_term names o joined
+    (open_square ∷ listed (map (pair_spelling names) (pairs_value names ps)) (close_square gap ∷ rest)) wo
     (refl, refl, separate_pairs names ps (close_square gap ∷ rest) wp (refl, refl, h) refl) refl
 
 pub separate_member : (names : List (List ℕ)) (o c : TermTree) (gap : Gap) (rest : List Spelled) →
     IsWritableTerm names o → IsWritableTerm names c → AreSeparate rest → Ends gap rest →
     AreSeparate (member_spelling names (term_value names o) (term_value names c) gap rest)
 separate_member names o c gap rest wo wc h e =
-    separate_term names o space (spelled Hash (codes "#") space ∷ term_spelling names (term_value names c) gap rest) wo
+    separate_term names o space
+    (spelled Hash (codes "#") space ∷ term_spelling names (term_value names c) gap rest) wo
     (refl, refl, separate_term names c gap rest wc h e) refl
 
 separate_equal : (names : List (List ℕ)) (t u : TermTree) (gap : Gap) (rest : List Spelled) →
     IsWritableTerm names t → IsWritableTerm names u → AreSeparate rest → Ends gap rest →
     AreSeparate (equal_spelling names (term_value names t) (term_value names u) gap rest)
 separate_equal names t u gap rest wt wu h e =
-    separate_term names t space (spelled EqualSign (codes "=") space ∷ term_spelling names (term_value names u) gap rest) wt
+    separate_term names t space
+    (spelled EqualSign (codes "=") space ∷ term_spelling names (term_value names u) gap rest) wt
     (refl, refl, separate_term names u gap rest wu h e) refl
 
 pub separate_atom : (names : List (List ℕ)) (n : NameTree) (ts : TermTrees) (gap : Gap) (rest : List Spelled) →
@@ -94,8 +111,12 @@ mutual
       (refl, refl, separate_opening inside (separate_formulas names fs (closing gap ∷ rest) w (refl, refl, h) refl))
   separate_formula names (neg n f) gap rest w h e =
       let inside = formula_spelling names (formula_value names f) joined (closing gap ∷ rest) in
-      subst AreSeparate (sym (spelled_not names (formula_value names f) gap rest))
-      (refl, refl, separate_opening inside (separate_formula names f joined (closing gap ∷ rest) w (refl, refl, h) refl))
+      subst AreSeparate (sym (spelled_not names (formula_value names f) gap rest)) (
+        refl,
+        refl,
+        separate_opening inside
+            (separate_formula names f joined (closing gap ∷ rest) w (refl, refl, h) refl),
+      )
   separate_formula names (some vs f) gap rest w h e =
       let inside = formula_spelling names (formula_value names f) joined (closing gap ∷ rest) in
       subst AreSeparate (sym (spelled_exists names (vars_value names vs) (formula_value names f) gap rest)) (
@@ -114,10 +135,12 @@ mutual
       subst AreSeparate (sym (spelled_equal names (term_value names (term_of_first t)) (term_value names u) gap rest))
       (separate_equal names (term_of_first t) u gap rest w.0 w.1 h e)
   separate_formula names (compared t (member_of u)) gap rest w h e =
-      subst AreSeparate (sym (spelled_member names (term_value names (term_of_first t)) (term_value names u) gap rest))
+      subst AreSeparate (sym
+      (spelled_member names (term_value names (term_of_first t)) (term_value names u) gap rest))
       (separate_member names (term_of_first t) u gap rest w.0 w.1 h e)
   separate_formula names (compared t (with_pairs ps)) gap rest w h e =
-      subst AreSeparate (sym (spelled_frame names (term_value names (term_of_first t)) (pairs_value names ps) gap rest))
+      subst AreSeparate (sym
+      (spelled_frame names (term_value names (term_of_first t)) (pairs_value names ps) gap rest))
       (separate_frame names (term_of_first t) ps gap rest w.0 w.1 h)
   separate_formula names (atom n ts) gap rest w h e =
       subst AreSeparate (sym (spelled_atom names (name_value n) (terms_value names ts) gap rest))

@@ -1,19 +1,25 @@
 -- The canonical spelling is tokens of which each ends before the next.
-use Rattle.std.proofs.Common.{◌≡◌, ℕ, ◌==◌, ◌&&◌, not, Bool, true, false, List, [], ◌∷◌, ◌++◌, length, map, get_or, refl, ap, sym, subst, codes}
+use Rattle.std.proofs.Common.{◌≡◌, ℕ, ◌==◌, ◌&&◌, not, Bool, true, false, List, [], ◌∷◌, ◌++◌, length, map, get_or}
+use Rattle.std.proofs.Common.{refl, ap, sym, subst, codes}
 use Rattle.std.proofs.lemmas.Bool.{eqb-true}
 use Rattle.rif_terms.specs.declared.builtin.Func.{Func}
-use Rattle.rif_terms.specs.declared.builtin.Func.TheVariants.{NumericAdd, NumericSubtract, NumericMultiply, NumericIntegerDivide, NumericIntegerMod, Not as NotFunc, Concat, StringLength}
+use Rattle.rif_terms.specs.declared.builtin.Func.TheVariants.{NumericAdd, NumericSubtract, NumericMultiply}
+use Rattle.rif_terms.specs.declared.builtin.Func.TheVariants.{NumericIntegerDivide, NumericIntegerMod, Not as NotFunc}
+use Rattle.rif_terms.specs.declared.builtin.Func.TheVariants.{Concat, StringLength}
 use Rattle.rif_terms.specs.declared.constant.Const.{Const}
-use Rattle.rif_terms.specs.declared.constant.Const.TheVariants.{Int as IntConst, Bool as BoolConst, Str as StrConst, Iri as IriConst, Local as LocalConst, Fresh}
+use Rattle.rif_terms.specs.declared.constant.Const.TheVariants.{Int as IntConst, Bool as BoolConst, Str as StrConst}
+use Rattle.rif_terms.specs.declared.constant.Const.TheVariants.{Iri as IriConst, Local as LocalConst, Fresh}
 use Rattle.rif_lex.specs.declared.piece.Piece.TheVariants.{Lexeme}
 use Rattle.rif_lex.specs.declared.token.Kind.{Kind}
 use Rattle.rif_lex.specs.declared.token.Kind.TheVariants.{Word, Curie, Local, Var, Int}
 use Rattle.rif_lex.specs.Characters.{begins, begins_name}
 use Rattle.rif_lex.specs.Pieces.{piece_at}
-use Rattle.rif_lex.specs.Spelling.{IsToken, Gap, joined, gap_text, Spelled, spelled_text, ends_name, ends_before, AreSeparate}
+use Rattle.rif_lex.specs.Spelling.{IsToken, Gap, joined, gap_text, Spelled, spelled_text, ends_name, ends_before}
+use Rattle.rif_lex.specs.Spelling.{AreSeparate}
 use Rattle.rif_lex.proofs.ConstantLemmas.{constants_are_tokens}
 use Rattle.rif_lex.proofs.FollowLemmas.{forms_are_tokens}
-use Rattle.prd_reader.specs.Canonical.{Writing, opening, closing, gap_before, listed, const_spelling, var_spelling, func_text, external_spelling, term_spelling}
+use Rattle.prd_reader.specs.Canonical.{Writing, opening, closing, gap_before, listed, const_spelling, var_spelling}
+use Rattle.prd_reader.specs.Canonical.{func_text, external_spelling, term_spelling}
 use Rattle.prd_reader.specs.Trees.{TermTree, constant, variable, call, TermTrees, no_terms, terms}
 use Rattle.prd_reader.specs.Values.{const_value, func_value, term_value, terms_value, place_of}
 use Rattle.prd_reader.specs.Writable.{HasNames, IsNameText, IsWritableConst, IsWritableTerm, AreWritableTerms, Ends}
@@ -48,7 +54,8 @@ no_star_by k b bs true e token =
     let star : b ≡ 42 = eqb-true b 42 e in
     let none = subst (λ x. piece_at (x ∷ bs) ≡ Lexeme k (length (x ∷ bs))) star token in cc
 
-no_star_text : (k : Kind) (text more : List ℕ) → piece_at text ≡ Lexeme k (length text) → begins 42 (text ++ more) ≡ false
+no_star_text : (k : Kind) (text more : List ℕ) → piece_at text ≡ Lexeme k (length text) →
+    begins 42 (text ++ more) ≡ false
 no_star_text k [] more token = cc
 no_star_text k (b ∷ bs) more token = no_star_by k b bs (b == 42) refl token
 
@@ -66,7 +73,8 @@ name_token (b ∷ bs) names = constants_are_tokens.names b bs names
 
 var_token : (t : List ℕ) → HasNames t → IsToken (record { kind = Var; text = codes "?" ++ t })
 var_token [] names = absurd names
-var_token (b ∷ bs) names = (forms_are_tokens Var (63 ∷ b ∷ bs)).1 (record { first = b; more = bs; is = refl; names = names })
+var_token (b ∷ bs) names =
+    (forms_are_tokens Var (63 ∷ b ∷ bs)).1 (record { first = b; more = bs; is = refl; names = names })
 
 pub separate_const : (c : Const) (gap : Gap) (rest : List Spelled) → IsWritableConst c → AreSeparate rest →
     Ends gap rest → AreSeparate (const_spelling c gap rest)
@@ -109,7 +117,8 @@ separate_external name ws gap rest token s = (
 )
 
 -- a member of a list ends before what follows it there
-pub ends_in_list : (ws : List Writing) (rest : List Spelled) → Ends joined rest → Ends (gap_before ws) (listed ws rest)
+pub ends_in_list : (ws : List Writing) (rest : List Spelled) → Ends joined rest →
+    Ends (gap_before ws) (listed ws rest)
 ends_in_list [] rest e = e
 ends_in_list (w ∷ ws) rest e = refl
 
@@ -118,7 +127,8 @@ mutual
       IsWritableTerm names t → AreSeparate rest → Ends gap rest →
       AreSeparate (term_spelling names (term_value names t) gap rest)
   separate_term names (constant c) gap rest w s e =
-      subst AreSeparate (sym (spelled_const names (const_value c) gap rest)) (separate_const (const_value c) gap rest w s e)
+      subst AreSeparate (sym (spelled_const names (const_value c) gap rest))
+      (separate_const (const_value c) gap rest w s e)
   separate_term names (variable v) gap rest w s e =
       subst AreSeparate (sym (spelled_var names (place_of names v) gap rest))
       (separate_var names (place_of names v) gap rest w s e)

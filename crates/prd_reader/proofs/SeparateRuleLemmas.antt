@@ -5,12 +5,26 @@ use Rattle.rif_terms.specs.declared.tree.Level.{Level}
 use Rattle.rif_terms.specs.declared.rule.Rule.{Rule}
 use Rattle.rif_lex.specs.Spelling.{Gap, joined, space, line_feed, Spelled, AreSeparate}
 use Rattle.rif_lex.proofs.ConstantLemmas.{constants_are_tokens}
-use Rattle.prd_reader.specs.Canonical.{word, opening, closing, open_square, close_square, arrow, gap_before, listed, spaced, var_spelling, term_spelling, formula_spelling, target_spelling, acted_spelling, action_spelling, slot_spelling, new_spelling, decl_spelling, block_spelling, such_spelling, levels_spelling, rule_spelling, group_spelling, groups_spelling, rules_spelling, canonical_spelling}
-use Rattle.prd_reader.specs.Trees.{TermTree, TargetTree, target_member, target_frame, target_atom, ActionTree, assert, retract, retract_slot, retract_object, modify, ActionTrees, last_action, actions, BlockTree, acts, new_object, slot_value, SuchTrees, last_such, more_such, RuleTree, for_all, for_all_such, if_then, block, GroupTree, group, MemberTrees, no_members, rule_member, group_member, PrefixTrees, no_group, one_group, prefix, DocumentTree, document}
-use Rattle.prd_reader.specs.Values.{term_value, target_value, action_value, actions_value, block_decls, block_actions, such_value, rule_levels, rule_condition, rule_block, rule_names, rule_value, priority_in, group_rules, member_rules, rules_behind, document_value, place_of}
-use Rattle.prd_reader.specs.Writable.{Ends, IsWritableVar, IsWritableTerm, IsWritableTarget, IsWritableAction, AreWritableActions, IsWritableBlock, AreWritableSuch, IsWritableRule, IsWritableGroup, AreWritableMembers, IsWritableDocument, AreWritablePrefixes}
+use Rattle.prd_reader.specs.Canonical.{word, opening, closing, open_square, close_square, arrow, gap_before, listed}
+use Rattle.prd_reader.specs.Canonical.{spaced, var_spelling, term_spelling, formula_spelling, target_spelling}
+use Rattle.prd_reader.specs.Canonical.{acted_spelling, action_spelling, slot_spelling, new_spelling, decl_spelling}
+use Rattle.prd_reader.specs.Canonical.{block_spelling, such_spelling, levels_spelling, rule_spelling, group_spelling}
+use Rattle.prd_reader.specs.Canonical.{groups_spelling, rules_spelling, canonical_spelling}
+use Rattle.prd_reader.specs.Trees.{TermTree, TargetTree, target_member, target_frame, target_atom, ActionTree, assert}
+use Rattle.prd_reader.specs.Trees.{retract, retract_slot, retract_object, modify, ActionTrees, last_action, actions}
+use Rattle.prd_reader.specs.Trees.{BlockTree, acts, new_object, slot_value, SuchTrees, last_such, more_such, RuleTree}
+use Rattle.prd_reader.specs.Trees.{for_all, for_all_such, if_then, block, GroupTree, group, MemberTrees, no_members}
+use Rattle.prd_reader.specs.Trees.{rule_member, group_member, PrefixTrees, no_group, one_group, prefix, DocumentTree}
+use Rattle.prd_reader.specs.Trees.{document}
+use Rattle.prd_reader.specs.Values.{term_value, target_value, action_value, actions_value, block_decls, block_actions}
+use Rattle.prd_reader.specs.Values.{such_value, rule_levels, rule_condition, rule_block, rule_names, rule_value}
+use Rattle.prd_reader.specs.Values.{priority_in, group_rules, member_rules, rules_behind, document_value, place_of}
+use Rattle.prd_reader.specs.Writable.{Ends, IsWritableVar, IsWritableTerm, IsWritableTarget, IsWritableAction}
+use Rattle.prd_reader.specs.Writable.{AreWritableActions, IsWritableBlock, AreWritableSuch, IsWritableRule}
+use Rattle.prd_reader.specs.Writable.{IsWritableGroup, AreWritableMembers, IsWritableDocument, AreWritablePrefixes}
 use Rattle.prd_reader.proofs.SeparateLemmas.{separate_opening, separate_var, separate_term}
-use Rattle.prd_reader.proofs.SeparateFormulaLemmas.{separate_frame, separate_member, separate_atom, separate_vars, separate_formula}
+use Rattle.prd_reader.proofs.SeparateFormulaLemmas.{separate_frame, separate_member, separate_atom, separate_vars}
+use Rattle.prd_reader.proofs.SeparateFormulaLemmas.{separate_formula}
 
 separate_target : (names : List (List ℕ)) (t : TargetTree) (gap : Gap) (rest : List Spelled) →
     IsWritableTarget names t → AreSeparate rest → Ends gap rest →
@@ -81,7 +95,11 @@ separate_new : (names : List (List ℕ)) (v : List ℕ) (gap : Gap) (rest : List
 separate_new names v gap rest wv h =
     let new = word (codes "New") joined ∷ opening ∷ closing joined ∷ closing gap ∷ rest in
     separate_opening (var_spelling names (place_of names v) space new)
-    (separate_var names (place_of names v) space new wv (refl, refl, (refl, refl, (refl, refl, (refl, refl, h)))) refl)
+    (separate_var names (place_of names v) space new wv (
+      refl,
+      refl,
+      (refl, refl, (refl, refl, (refl, refl, h))),
+    ) refl)
 
 separate_inside : (names : List (List ℕ)) (b : BlockTree) (rest : List Spelled) →
     IsWritableBlock names b → AreSeparate rest → Ends joined rest →
@@ -171,7 +189,8 @@ separate_group p r rest small w h =
       (
         constants_are_tokens.integers p small,
         refl,
-        separate_opening inner (separate_levels p (rule_names r) (rule_levels (rule_names r) r) r (closing line_feed ∷ rest) w
+        separate_opening inner
+            (separate_levels p (rule_names r) (rule_levels (rule_names r) r) r (closing line_feed ∷ rest) w
             (refl, refl, h)),
       ),
     )
@@ -190,7 +209,8 @@ mutual
       AreSeparate (groups_spelling (member_rules p ms) rest)
   separate_members p no_members rest w h = h
   separate_members p (rule_member r ms) rest w h =
-      separate_group p r (groups_spelling (member_rules p ms) rest) w.0.small w.1.0 (separate_members p ms rest w.1.1 h)
+      separate_group p r (groups_spelling (member_rules p ms) rest) w.0.small w.1.0
+      (separate_members p ms rest w.1.1 h)
   separate_members p (group_member g ms) rest w h =
       subst AreSeparate (sym (groups_both (group_rules p g) (member_rules p ms) rest))
       (separate_group_rules p g (groups_spelling (member_rules p ms) rest) w.0 (separate_members p ms rest w.1 h))
@@ -224,5 +244,6 @@ separate_prefixes (one_group g) w =
 separate_prefixes (prefix name iri ps) w = separate_prefixes ps w
 
 -- the canonical spelling of what a tree stands for is lexed to its tokens
-pub separate_document : (t : DocumentTree) → IsWritableDocument t → AreSeparate (canonical_spelling (document_value t))
+pub separate_document : (t : DocumentTree) → IsWritableDocument t →
+    AreSeparate (canonical_spelling (document_value t))
 separate_document (document ps) w = separate_prefixes ps w

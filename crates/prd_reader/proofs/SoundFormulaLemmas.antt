@@ -10,7 +10,8 @@ use Rattle.prd_reader.specs.Trees.{spell_name, Tail, equals, member_of, with_pai
 use Rattle.prd_reader.specs.Trees.{more_vars, spell_vars, NotWord, spelled_not, spelled_ineg, not_leaf, FirstTerm}
 use Rattle.prd_reader.specs.Trees.{first_constant, first_variable, first_call, term_of_first, func_known, call}
 use Rattle.prd_reader.specs.Trees.{variable, spell_term, pred_known, pred_unknown, pred_undeclared, FormulaTree, conj}
-use Rattle.prd_reader.specs.Trees.{disj, neg, some, grouped, holds, compared, atom, FormulaTrees, no_formulas, formulas}
+use Rattle.prd_reader.specs.Trees.{disj, neg, some, grouped, holds, compared, atom, FormulaTrees, no_formulas}
+use Rattle.prd_reader.specs.Trees.{formulas}
 use Rattle.prd_reader.specs.Trees.{spell_formula, spell_formulas}
 use Rattle.prd_reader.specs.CanonicalTrees.{canonical_name, canonical_first, canonical_tail, canonical_formula}
 use Rattle.prd_reader.specs.CanonicalTrees.{canonical_formulas}
@@ -38,7 +39,8 @@ tail_sound (equals t) = both (leaf Equal refl) (plain_term t)
 tail_sound (member_of t) = both (leaf Hash refl) (plain_term t)
 tail_sound (with_pairs ps) = both (inside plain opens_square) (inside plain (pairs_sound ps))
 
-first_sound : (t : FirstTerm) → InPlain (spell_term (term_of_first t)) (spell_term (term_of_first (canonical_first t)))
+first_sound : (t : FirstTerm) →
+    InPlain (spell_term (term_of_first t)) (spell_term (term_of_first (canonical_first t)))
 first_sound (first_constant c) = inside plain (const_sound c)
 first_sound (first_variable v) = plain_term (variable v)
 first_sound (first_call f ts) = plain_term (call (func_known f) ts)

@@ -1,4 +1,5 @@
--- Leaves at which nothing is amiss, as far as the leaf, the innermost bracket and the head of a group tell: neither how
+-- Leaves at which nothing is amiss, as far as the leaf, the innermost bracket and the head of a group tell: neither
+-- how
 -- deep brackets stand nor what has been counted.
 --     AreSound brackets next in_head ls    nothing is amiss at these leaves; `next` is the bracket that would open
 --     StaySound before behind ls ms        where ls are sound, ms are, each with what these make of the brackets
@@ -6,7 +7,8 @@ use Rattle.std.proofs.Common.{◌≡◌, ◌||◌, Bool, true, false, List, [], 
 use Rattle.std.specs.Prelude.{if◌then◌else◌}
 use Rattle.prd_reader.specs.declared.leaf.Keyword.TheVariants.{Group}
 use Rattle.prd_reader.specs.declared.leaf.Leaf.{Leaf}
-use Rattle.prd_reader.specs.declared.leaf.Leaf.TheVariants.{Key, Var, Open, Close, OpenSquare, CloseSquare, Equal, Hash}
+use Rattle.prd_reader.specs.declared.leaf.Leaf.TheVariants.{Key, Var, Open, Close, OpenSquare, CloseSquare, Equal}
+use Rattle.prd_reader.specs.declared.leaf.Leaf.TheVariants.{Hash}
 use Rattle.prd_reader.specs.declared.leaf.Leaf.TheVariants.{Arrow}
 use Rattle.prd_reader.specs.declared.progress.Bracket.{Bracket}
 use Rattle.prd_reader.specs.declared.progress.Bracket.TheVariants.{Plain}

@@ -10,7 +10,8 @@ use Rattle.prd_reader.specs.declared.leaf.Leaf.TheVariants.{Arrow}
 use Rattle.prd_reader.specs.declared.progress.Bracket.{Bracket}
 use Rattle.prd_reader.specs.declared.progress.Bracket.TheVariants.{Arguments}
 use Rattle.prd_reader.specs.Progress.{with_argument}
-use Rattle.prd_reader.specs.Trees.{ConstTree, const_int, const_string, const_typed, const_iri, const_curie, const_local}
+use Rattle.prd_reader.specs.Trees.{ConstTree, const_int, const_string, const_typed, const_iri, const_curie}
+use Rattle.prd_reader.specs.Trees.{const_local}
 use Rattle.prd_reader.specs.Trees.{const_true, const_false, spell_const, func_known, func_unknown, func_undeclared}
 use Rattle.prd_reader.specs.Trees.{TermTree, constant, variable, call, TermTrees, no_terms, terms, spell_term}
 use Rattle.prd_reader.specs.Trees.{spell_terms, PairTrees, last_pair, pairs, spell_pairs}

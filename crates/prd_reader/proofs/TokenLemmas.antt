@@ -1,12 +1,16 @@
 -- What the text of a token is, by its form: digits, and parts that are UTF-8.
-use Rattle.std.proofs.Common.{◌≡◌, ◌⊎◌, inl, inr, ◌∙◌, sym, subst, ap, refl, ℕ, ◌+◌, ◌-◌, ◌<◌, ◌==◌, ◌&&◌, nat_le, Bool, true, false, cond, suc, List, [], ◌∷◌, ◌++◌, length, take, drop, length-append, append_assoc, arith, IsUtf8}
+use Rattle.std.proofs.Common.{◌≡◌, ◌⊎◌, inl, inr, ◌∙◌, sym, subst, ap, refl, ℕ, ◌+◌, ◌-◌, ◌<◌, ◌==◌, ◌&&◌, nat_le}
+use Rattle.std.proofs.Common.{Bool, true, false, cond, suc, List, [], ◌∷◌, ◌++◌, length, take, drop, length-append}
+use Rattle.std.proofs.Common.{append_assoc, arith, IsUtf8}
 use Rattle.std.proofs.lemmas.Bool.{eqb-true}
 use Rattle.std.proofs.lemmas.Bool.Decides.{nat_tests}
 use Rattle.std.proofs.lemmas.List.{take_at, drop_at, take_rest, drop-drop}
 use Rattle.std.proofs.lemmas.Str.{IsUtf8-nil}
 use Rattle.std.specs.List.{flat_map, list_all, AllByRecursion}
 use Rattle.rif_lex.specs.declared.class.Class.{Class}
-use Rattle.rif_lex.specs.declared.class.Class.TheVariants.{White, Letter, Zero, Digit, Underscore, Minus, Question, Quote, Less, Open, Close, OpenSquare, CloseSquare, Equal, Hash, Caret, Other}
+use Rattle.rif_lex.specs.declared.class.Class.TheVariants.{White, Letter, Zero, Digit, Underscore, Minus, Question}
+use Rattle.rif_lex.specs.declared.class.Class.TheVariants.{Quote, Less, Open, Close, OpenSquare, CloseSquare, Equal}
+use Rattle.rif_lex.specs.declared.class.Class.TheVariants.{Hash, Caret, Other}
 use Rattle.rif_lex.specs.declared.token.Kind.{Kind}
 use Rattle.rif_lex.specs.declared.token.Kind.TheVariants.{Local, Var, Int, Str, Iri}
 use Rattle.rif_lex.specs.Characters.{begins_name, class_at, is_between, is_digit, is_first_digit}
@@ -114,7 +118,8 @@ var_utf8 w token is utf8 =
 between_utf8 : (first last : ℕ) (inside text : List ℕ) → first < 128 → begins_name (last ∷ []) ≡ false →
     text ≡ first ∷ (inside ++ last ∷ []) → IsUtf8 text → IsUtf8 (inner text)
 between_utf8 first last inside text low ends is utf8 =
-    let behind = (cut_utf8 (first ∷ []) (inside ++ last ∷ []) (subst IsUtf8 is utf8) (inr ([], first, refl, low))).1 in
+    let behind = (cut_utf8 (first ∷ []) (inside ++ last ∷ []) (subst IsUtf8 is utf8)
+    (inr ([], first, refl, low))).1 in
     let before = (cut_utf8 inside (last ∷ []) behind (inl ends)).0 in
     let long : length inside ≡ length (first ∷ (inside ++ last ∷ [])) - 2 = omega (
       arith,

@@ -2,7 +2,8 @@
 use Rattle.std.proofs.Common.{ℕ, List, [], ◌∷◌, ◌++◌}
 use Rattle.prd_reader.specs.declared.leaf.Leaf.TheVariants.{Var, Open, Close, OpenSquare, CloseSquare, Hash, Arrow}
 use Rattle.prd_reader.specs.Trees.{const_of_name, spell_const, spell_term, spell_terms, spell_pairs, TargetTree}
-use Rattle.prd_reader.specs.Trees.{target_member, target_frame, target_atom, spell_target, ActionTree, assert, retract}
+use Rattle.prd_reader.specs.Trees.{target_member, target_frame, target_atom, spell_target, ActionTree, assert}
+use Rattle.prd_reader.specs.Trees.{retract}
 use Rattle.prd_reader.specs.Trees.{retract_slot, retract_object, modify, spell_action, ActionTrees, last_action}
 use Rattle.prd_reader.specs.Trees.{actions, spell_actions, BlockTree, acts, new_object, slot_value, spell_block}
 use Rattle.prd_reader.specs.Writable.{IsWritableTarget, IsWritableAction, AreWritableActions, IsWritableBlock}

@@ -5,10 +5,13 @@ use Rattle.rif_lex.specs.Lexing.{lexed}
 use Rattle.prd_reader.specs.declared.leaf.Keyword.TheVariants.{Then, Do}
 use Rattle.prd_reader.specs.declared.leaf.Leaf.TheVariants.{Key, Open, Close}
 use Rattle.prd_reader.specs.Leaves.{leaves_of}
-use Rattle.prd_reader.specs.Trees.{spell_vars, spell_formula, spell_block, spell_such, RuleTree, for_all, for_all_such}
+use Rattle.prd_reader.specs.Trees.{spell_vars, spell_formula, spell_block, spell_such, RuleTree, for_all}
+use Rattle.prd_reader.specs.Trees.{for_all_such}
 use Rattle.prd_reader.specs.Trees.{if_then, block, spell_rule, spell_strategy, PriorityTree, no_priority, priority}
-use Rattle.prd_reader.specs.Trees.{spell_priority, GroupTree, group, MemberTrees, no_members, rule_member, group_member}
-use Rattle.prd_reader.specs.Trees.{spell_group, spell_members, PrefixTrees, no_group, one_group, prefix, spell_prefixes}
+use Rattle.prd_reader.specs.Trees.{spell_priority, GroupTree, group, MemberTrees, no_members, rule_member}
+use Rattle.prd_reader.specs.Trees.{group_member}
+use Rattle.prd_reader.specs.Trees.{spell_group, spell_members, PrefixTrees, no_group, one_group, prefix}
+use Rattle.prd_reader.specs.Trees.{spell_prefixes}
 use Rattle.prd_reader.specs.Trees.{DocumentTree, document, spell_document}
 use Rattle.prd_reader.specs.Values.{rule_names, priority_in}
 use Rattle.prd_reader.specs.Writable.{IsWritableInt, IsWritableRule, IsWritableGroup, AreWritableMembers}

@@ -1,5 +1,6 @@
 -- What a prefix stands for may stand between `<` and `>`, and so may a CURIE's IRI.
-use Rattle.std.proofs.Common.{ℕ, Bool, true, false, cond, suc, List, [], ◌∷◌, length, drop, refl, Some, None, bytes_eq}
+use Rattle.std.proofs.Common.{ℕ, Bool, true, false, cond, suc, List, [], ◌∷◌, length, drop, refl, Some, None}
+use Rattle.std.proofs.Common.{bytes_eq}
 use Rattle.std.proofs.Common.{IsUtf8}
 use Rattle.std.specs.Prelude.{Option, codes}
 use Rattle.rif_lex.specs.Forms.{IsCurie}

@@ -1,8 +1,10 @@
 -- Terms that are spelled with leaves that can be written can be written.
 use Rattle.std.proofs.Common.{ℕ, List, [], ◌∷◌, ◌++◌}
 use Rattle.prd_reader.specs.declared.leaf.Leaf.TheVariants.{Close, CloseSquare, Arrow}
-use Rattle.prd_reader.specs.Trees.{ConstTree, const_int, const_string, const_typed, const_iri, const_curie, const_local}
-use Rattle.prd_reader.specs.Trees.{const_true, const_false, spell_const, TermTree, constant, variable, call, spell_term}
+use Rattle.prd_reader.specs.Trees.{ConstTree, const_int, const_string, const_typed, const_iri, const_curie}
+use Rattle.prd_reader.specs.Trees.{const_local}
+use Rattle.prd_reader.specs.Trees.{const_true, const_false, spell_const, TermTree, constant, variable, call}
+use Rattle.prd_reader.specs.Trees.{spell_term}
 use Rattle.prd_reader.specs.Trees.{TermTrees, no_terms, terms, spell_terms, PairTrees, last_pair, pairs, spell_pairs}
 use Rattle.prd_reader.specs.Trees.{Vars, one_var, more_vars, spell_vars}
 use Rattle.prd_reader.specs.Values.{const_value}

@@ -146,7 +146,8 @@ ascii_tested (b ∷ bs) is =
     let parts = both (nat_lt b 128) (list_all (λ c. nat_lt c 128) bs) is in
     IsAscii-cons b bs (ltb-true b 128 parts.0) (ascii_tested bs parts.1)
 
-pub iri_computed : (t : List ℕ) → list_all is_inside_iri t ≡ true → list_all (λ b. nat_lt b 128) t ≡ true → IsIriText t
+pub iri_computed : (t : List ℕ) → list_all is_inside_iri t ≡ true → list_all (λ b. nat_lt b 128) t ≡ true →
+    IsIriText t
 iri_computed t inside low = iri_tested t inside (IsUtf8-from_ascii t (ascii_tested t low))
 
 pub iri_empty : IsIriText []

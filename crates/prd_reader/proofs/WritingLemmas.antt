@@ -1,5 +1,6 @@
 -- Writing the members of a list one behind another.
-use Rattle.std.proofs.Common.{◌≡◌, ℕ, ◌+◌, ◌<◌, ◌≤◌, Bool, true, false, List, [], ◌∷◌, ◌++◌, length, map, drop, get_or, refl, ap, ◌∙◌, sym, append_assoc}
+use Rattle.std.proofs.Common.{◌≡◌, ℕ, ◌+◌, ◌<◌, ◌≤◌, Bool, true, false, List, [], ◌∷◌, ◌++◌, length, map, drop}
+use Rattle.std.proofs.Common.{get_or, refl, ap, ◌∙◌, sym, append_assoc}
 use Rattle.std.proofs.lemmas.List.{at_drop_more, drop_all}
 use Rattle.rif_lex.specs.Spelling.{Gap, Spelled, space, gap_text, spelled_text}
 use Rattle.prd_reader.specs.Canonical.{Writing, gap_before, listed, spaced}
@@ -52,7 +53,8 @@ items_written f all i is_first start out past rest all_so_far =
 pub spaced_written : {A : Type 0} (f : A → Writing) (all : List A) (i : ℕ) (x d : A) (out at new : List ℕ) →
     i < length all → x ≡ get_or all i d → IsAppended out at (f x) → ((r : List ℕ) → new ++ r ≡ at ++ (32 ∷ r)) →
     (rest : List Spelled) →
-    new ++ spelled_text (spaced (map f (drop (i + 1) all)) rest) ≡ out ++ spelled_text (spaced (map f (drop i all)) rest)
+    new ++ spelled_text (spaced (map f (drop (i + 1) all)) rest)
+    ≡ out ++ spelled_text (spaced (map f (drop i all)) rest)
 spaced_written f all i x d out at new within is appended behind rest =
     let more = spaced (map f (drop (i + 1) all)) rest in
     let here = at_drop_more (λ xs. out ++ spelled_text (spaced (map f xs) rest)) all i d within in

@@ -1,6 +1,8 @@
--- Building a document as a function on the leaves that are left, within a number of steps. Each word answers what stands
+-- Building a document as a function on the leaves that are left, within a number of steps. Each word answers what
+-- stands
 -- at the front and what is left behind it. No public clause cites this module.
-use Rattle.std.specs.Prelude.{◌≡◌, map, ℕ, zero, suc, ℤ, pos, Bool, if◌then◌else◌, List, [], ◌∷◌, ◌++◌, Option, Some, None, drop, length}
+use Rattle.std.specs.Prelude.{◌≡◌, map, ℕ, zero, suc, ℤ, pos, Bool, if◌then◌else◌, List, [], ◌∷◌, ◌++◌, Option, Some}
+use Rattle.std.specs.Prelude.{None, drop, length}
 use Rattle.rif_terms.specs.declared.builtin.Func.{Func}
 use Rattle.rif_terms.specs.declared.builtin.Pred.{Pred}
 use Rattle.rif_terms.specs.declared.tree.Term.{Term}
@@ -9,7 +11,8 @@ use Rattle.rif_terms.specs.declared.tree.Formula.{Formula}
 use Rattle.rif_terms.specs.declared.tree.Formula.TheVariants.{And, Or, Not, Exists, Equal, Member, Frame, Atom, Holds}
 use Rattle.rif_terms.specs.declared.tree.Level.{Level}
 use Rattle.rif_terms.specs.declared.rule.Target.{Target}
-use Rattle.rif_terms.specs.declared.rule.Target.TheVariants.{Atom as AtomTarget, Frame as FrameTarget, Member as MemberTarget}
+use Rattle.rif_terms.specs.declared.rule.Target.TheVariants.{Atom as AtomTarget, Frame as FrameTarget}
+use Rattle.rif_terms.specs.declared.rule.Target.TheVariants.{Member as MemberTarget}
 use Rattle.rif_terms.specs.declared.rule.Action.{Action}
 use Rattle.rif_terms.specs.declared.rule.Action.TheVariants.{Assert, Retract, RetractSlot, RetractObject, Modify}
 use Rattle.rif_terms.specs.declared.rule.Decl.{Decl}
@@ -18,15 +21,28 @@ use Rattle.rif_terms.specs.declared.rule.Rule.{Rule}
 use Rattle.rif_terms.specs.declared.rule.Doc.{Doc}
 use Rattle.prd_reader.specs.declared.leaf.Leaf.{Leaf}
 use Rattle.prd_reader.specs.declared.building.signs.TermSign.TheVariants.{Variable, Call, Constant}
-use Rattle.prd_reader.specs.declared.building.signs.FormulaSign.TheVariants.{And as AndSign, Or as OrSign, Not as NotSign, Exists as ExistsSign, Grouped as GroupedSign, Holds as HoldsSign, Atom as AtomSign, Term as FirstSign}
-use Rattle.prd_reader.specs.declared.building.signs.TailSign.TheVariants.{Equal as EqualSign, Member as MemberOf, Pairs as PairsSign, Close as CloseSign, Other as OtherSign}
-use Rattle.prd_reader.specs.declared.building.signs.ActionSign.TheVariants.{Assert as AssertSign, Retract as RetractSign, Modify as ModifySign}
+use Rattle.prd_reader.specs.declared.building.signs.FormulaSign.TheVariants.{And as AndSign, Or as OrSign}
+use Rattle.prd_reader.specs.declared.building.signs.FormulaSign.TheVariants.{Not as NotSign, Exists as ExistsSign}
+use Rattle.prd_reader.specs.declared.building.signs.FormulaSign.TheVariants.{Grouped as GroupedSign}
+use Rattle.prd_reader.specs.declared.building.signs.FormulaSign.TheVariants.{Holds as HoldsSign, Atom as AtomSign}
+use Rattle.prd_reader.specs.declared.building.signs.FormulaSign.TheVariants.{Term as FirstSign}
+use Rattle.prd_reader.specs.declared.building.signs.TailSign.TheVariants.{Equal as EqualSign, Member as MemberOf}
+use Rattle.prd_reader.specs.declared.building.signs.TailSign.TheVariants.{Pairs as PairsSign, Close as CloseSign}
+use Rattle.prd_reader.specs.declared.building.signs.TailSign.TheVariants.{Other as OtherSign}
+use Rattle.prd_reader.specs.declared.building.signs.ActionSign.TheVariants.{Assert as AssertSign}
+use Rattle.prd_reader.specs.declared.building.signs.ActionSign.TheVariants.{Retract as RetractSign}
+use Rattle.prd_reader.specs.declared.building.signs.ActionSign.TheVariants.{Modify as ModifySign}
 use Rattle.prd_reader.specs.declared.building.signs.MemberSign.{MemberSign}
-use Rattle.prd_reader.specs.declared.building.signs.MemberSign.TheVariants.{Close as MembersEnd, Prefix as PrefixMember, Group as GroupMember, Rule as RuleMember}
+use Rattle.prd_reader.specs.declared.building.signs.MemberSign.TheVariants.{Close as MembersEnd}
+use Rattle.prd_reader.specs.declared.building.signs.MemberSign.TheVariants.{Prefix as PrefixMember}
+use Rattle.prd_reader.specs.declared.building.signs.MemberSign.TheVariants.{Group as GroupMember, Rule as RuleMember}
 use Rattle.prd_reader.specs.declared.building.rules.Body.{Body}
 use Rattle.prd_reader.specs.Trees.{DocumentTree, spell_document}
 use Rattle.prd_reader.specs.Values.{place_of, level_of, document_value}
-use Rattle.prd_reader.specs.Signs.{first, closes, closes_square, ends_vars, ends_decls, ends_such, ends_levels, begins_such, begins_if, begins_new, member_sign, action_sign, tail_sign, formula_sign, is_atom, leaf_name, leaf_priority, leaf_const, const_width, term_sign, strategy_width, priority_width}
+use Rattle.prd_reader.specs.Signs.{first, closes, closes_square, ends_vars, ends_decls, ends_such, ends_levels}
+use Rattle.prd_reader.specs.Signs.{begins_such, begins_if, begins_new, member_sign, action_sign, tail_sign}
+use Rattle.prd_reader.specs.Signs.{formula_sign, is_atom, leaf_name, leaf_priority, leaf_const, const_width}
+use Rattle.prd_reader.specs.Signs.{term_sign, strategy_width, priority_width}
 
 -- what was read, and the leaves behind it
 abbrev pub Read : Type 0 → Type 0
@@ -70,7 +86,8 @@ abbrev pub terms_at : Names → ℕ → List Leaf → Read (List Term)
 terms_at names n ss = items_at closes (term_at names n) n ss
 
 abbrev pub pair_at : Names → ℕ → List Leaf → Read (Term × Term)
-pair_at names n ss = after (term_at names n ss) (λ s rest. after (term_at names n (drop 1 rest)) (λ v more. Some ((s, v), more)))
+pair_at names n ss =
+    after (term_at names n ss) (λ s rest. after (term_at names n (drop 1 rest)) (λ v more. Some ((s, v), more)))
 
 -- the pairs up to a square bracket that closes
 abbrev pub pairs_at : Names → ℕ → List Leaf → Read (List (Term × Term))
@@ -103,7 +120,8 @@ abbrev pub holds_at : Names → ℕ → Pred → List Leaf → Read Formula
 holds_at names n p ss = after (terms_at names n ss) (λ ts rest. Some (Holds p ts, drop 2 rest))
 
 abbrev pub named_at : Names → ℕ → List Leaf → Read Formula
-named_at names n ss = after (terms_at names n (arguments ss)) (λ ts rest. Some (Atom (leaf_const (first ss)) ts, drop 1 rest))
+named_at names n ss =
+    after (terms_at names n (arguments ss)) (λ ts rest. Some (Atom (leaf_const (first ss)) ts, drop 1 rest))
 
 -- a formula that is read behind variables and a bracket
 abbrev pub existing : (List Leaf → Read Formula) → Read (List ℕ) → Read Formula
@@ -135,7 +153,8 @@ targeted_at names n o ss = elim (tail_sign ss) [
 ]
 
 abbrev pub atom_at : Names → ℕ → List Leaf → Read Target
-atom_at names n ss = after (terms_at names n (arguments ss)) (λ ts rest. Some (AtomTarget (leaf_const (first ss)) ts, drop 1 rest))
+atom_at names n ss =
+    after (terms_at names n (arguments ss)) (λ ts rest. Some (AtomTarget (leaf_const (first ss)) ts, drop 1 rest))
 
 abbrev pub target_at : Names → ℕ → List Leaf → Read Target
 target_at names n ss =
@@ -273,7 +292,8 @@ abbrev pub members_at : ℕ → List ℤ → List Names → ℕ → List Leaf �
 members_at most ps all zero ss = None
 members_at most [] all (suc n) ss = Some ([], ss)
 members_at most (p ∷ ps) all (suc n) ss = elim (member_sign ss) [
-  | RuleMember ↦ after (next_rule_at p all most ss) (λ r rest. with_front (r ∷ []) (members_at most (p ∷ ps) (drop 1 all) n rest))
+  | RuleMember ↦ after (next_rule_at p all most ss)
+      (λ r rest. with_front (r ∷ []) (members_at most (p ∷ ps) (drop 1 all) n rest))
   | MembersEnd ↦ members_at most (opened_by MembersEnd p ss ++ ps) all n (behind_member MembersEnd ss)
   | PrefixMember ↦ members_at most (opened_by PrefixMember p ss ++ ps) all n (behind_member PrefixMember ss)
   | GroupMember ↦ members_at most (opened_by GroupMember p ss ++ ps) all n (behind_member GroupMember ss)
@@ -290,4 +310,5 @@ doc_at all ss = doc_of (members_at (length ss) (pos 0 ∷ []) all (length ss) (d
 -- what is built of the leaves of a tree, with the names of its rules, is the tree's value
 abbrev pub Builds : List Leaf → List Names → Option Doc → Type 0
 Builds leaves all o =
-    (t : DocumentTree) → spell_document t ≡ leaves → all ≡ map (λ r. r.names) (document_value t).rules → o ≡ Some (document_value t)
+    (t : DocumentTree) → spell_document t ≡ leaves → all ≡ map (λ r. r.names) (document_value t).rules →
+    o ≡ Some (document_value t)

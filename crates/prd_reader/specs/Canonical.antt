@@ -7,20 +7,30 @@
 use Rattle.std.specs.Prelude.{ℕ, List, [], ◌∷◌, ◌++◌, Option, Some, None, codes, get_or, map}
 use Rattle.std.specs.Fmt.{signed_decimal}
 use Rattle.rif_terms.specs.declared.builtin.Func.{Func}
-use Rattle.rif_terms.specs.declared.builtin.Func.TheVariants.{NumericAdd, NumericSubtract, NumericMultiply, NumericIntegerDivide, NumericIntegerMod, Not as NotFunc, Concat, StringLength}
+use Rattle.rif_terms.specs.declared.builtin.Func.TheVariants.{NumericAdd, NumericSubtract, NumericMultiply}
+use Rattle.rif_terms.specs.declared.builtin.Func.TheVariants.{NumericIntegerDivide, NumericIntegerMod, Not as NotFunc}
+use Rattle.rif_terms.specs.declared.builtin.Func.TheVariants.{Concat, StringLength}
 use Rattle.rif_terms.specs.declared.builtin.Pred.{Pred}
-use Rattle.rif_terms.specs.declared.builtin.Pred.TheVariants.{NumericEqual, NumericNotEqual, NumericLessThan, NumericLessThanOrEqual, NumericGreaterThan, NumericGreaterThanOrEqual, BooleanEqual, BooleanLessThan, BooleanGreaterThan, StartsWith, EndsWith, Contains, IsLiteralInteger, IsLiteralString, IsLiteralBoolean}
+use Rattle.rif_terms.specs.declared.builtin.Pred.TheVariants.{NumericEqual, NumericNotEqual, NumericLessThan}
+use Rattle.rif_terms.specs.declared.builtin.Pred.TheVariants.{NumericLessThanOrEqual, NumericGreaterThan}
+use Rattle.rif_terms.specs.declared.builtin.Pred.TheVariants.{NumericGreaterThanOrEqual, BooleanEqual}
+use Rattle.rif_terms.specs.declared.builtin.Pred.TheVariants.{BooleanLessThan, BooleanGreaterThan, StartsWith}
+use Rattle.rif_terms.specs.declared.builtin.Pred.TheVariants.{EndsWith, Contains, IsLiteralInteger, IsLiteralString}
+use Rattle.rif_terms.specs.declared.builtin.Pred.TheVariants.{IsLiteralBoolean}
 use Rattle.rif_terms.specs.declared.constant.Const.{Const}
-use Rattle.rif_terms.specs.declared.constant.Const.TheVariants.{Int as IntConst, Bool as BoolConst, Str as StrConst, Iri as IriConst, Local as LocalConst, Fresh}
+use Rattle.rif_terms.specs.declared.constant.Const.TheVariants.{Int as IntConst, Bool as BoolConst, Str as StrConst}
+use Rattle.rif_terms.specs.declared.constant.Const.TheVariants.{Iri as IriConst, Local as LocalConst, Fresh}
 use Rattle.rif_terms.specs.declared.tree.Term.{Term}
 use Rattle.rif_terms.specs.declared.tree.Term.TheOpen.{Term-F, Const as ConstTerm, Var as VarTerm, Call}
 use Rattle.rif_terms.specs.declared.tree.Term.TheFolds.{fold-Term}
 use Rattle.rif_terms.specs.declared.tree.Formula.{Formula}
-use Rattle.rif_terms.specs.declared.tree.Formula.TheOpen.{Formula-F, And, Or, Not, Exists, Equal, Member, Frame, Atom, Holds}
+use Rattle.rif_terms.specs.declared.tree.Formula.TheOpen.{Formula-F, And, Or, Not, Exists, Equal, Member, Frame, Atom}
+use Rattle.rif_terms.specs.declared.tree.Formula.TheOpen.{Holds}
 use Rattle.rif_terms.specs.declared.tree.Formula.TheFolds.{fold-Formula}
 use Rattle.rif_terms.specs.declared.tree.Level.{Level}
 use Rattle.rif_terms.specs.declared.rule.Target.{Target}
-use Rattle.rif_terms.specs.declared.rule.Target.TheVariants.{Atom as AtomTarget, Frame as FrameTarget, Member as MemberTarget}
+use Rattle.rif_terms.specs.declared.rule.Target.TheVariants.{Atom as AtomTarget, Frame as FrameTarget}
+use Rattle.rif_terms.specs.declared.rule.Target.TheVariants.{Member as MemberTarget}
 use Rattle.rif_terms.specs.declared.rule.Action.{Action}
 use Rattle.rif_terms.specs.declared.rule.Action.TheVariants.{Assert, Retract, RetractSlot, RetractObject, Modify}
 use Rattle.rif_terms.specs.declared.rule.Decl.{Decl}
@@ -29,7 +39,8 @@ use Rattle.rif_terms.specs.declared.rule.Rule.{Rule}
 use Rattle.rif_terms.specs.declared.rule.Doc.{Doc}
 use Rattle.rif_terms.specs.Writing.{const_text}
 use Rattle.rif_lex.specs.declared.token.Kind.{Kind}
-use Rattle.rif_lex.specs.declared.token.Kind.TheVariants.{Word, Curie, Local, Var, Int, Str, Iri, Open, Close, OpenSquare, CloseSquare, Equal as EqualSign, Hash, Arrow}
+use Rattle.rif_lex.specs.declared.token.Kind.TheVariants.{Word, Curie, Local, Var, Int, Str, Iri, Open, Close}
+use Rattle.rif_lex.specs.declared.token.Kind.TheVariants.{OpenSquare, CloseSquare, Equal as EqualSign, Hash, Arrow}
 use Rattle.rif_lex.specs.Spelling.{Spelled, Gap, joined, space, line_feed, spelled_text}
 
 -- a token with the gap behind it

@@ -3,7 +3,18 @@
 use Rattle.std.specs.Prelude.{ℤ, pos, true, false, [], Some}
 use Rattle.rif_terms.specs.declared.constant.Const.{Const}
 use Rattle.rif_terms.specs.declared.constant.Const.TheVariants.{Int, Bool, Str, Iri, Local, Fresh}
-use Rattle.prd_reader.specs.Trees.{ConstTree, const_int, const_string, const_iri, const_local, const_true, const_false, NameTree, name_iri, name_curie, name_local, name_typed_iri, name_typed_local, func_known, pred_known, TermTree, constant, variable, call, TermTrees, no_terms, terms, PairTrees, last_pair, pairs, Tail, equals, member_of, with_pairs, FirstTerm, first_constant, first_variable, first_call, spelled_not, FormulaTree, conj, disj, neg, some, grouped, holds, compared, atom, FormulaTrees, no_formulas, formulas, TargetTree, target_member, target_frame, target_atom, ActionTree, assert, retract, retract_slot, retract_object, modify, ActionTrees, last_action, actions, BlockTree, acts, new_object, slot_value, SuchTrees, last_such, more_such, RuleTree, for_all, for_all_such, if_then, block, no_strategy, no_priority, priority, GroupTree, group, MemberTrees, no_members, rule_member, group_member, PrefixTrees, no_group, one_group, prefix, DocumentTree, document}
+use Rattle.prd_reader.specs.Trees.{ConstTree, const_int, const_string, const_iri, const_local, const_true}
+use Rattle.prd_reader.specs.Trees.{const_false, NameTree, name_iri, name_curie, name_local, name_typed_iri}
+use Rattle.prd_reader.specs.Trees.{name_typed_local, func_known, pred_known, TermTree, constant, variable, call}
+use Rattle.prd_reader.specs.Trees.{TermTrees, no_terms, terms, PairTrees, last_pair, pairs, Tail, equals, member_of}
+use Rattle.prd_reader.specs.Trees.{with_pairs, FirstTerm, first_constant, first_variable, first_call, spelled_not}
+use Rattle.prd_reader.specs.Trees.{FormulaTree, conj, disj, neg, some, grouped, holds, compared, atom, FormulaTrees}
+use Rattle.prd_reader.specs.Trees.{no_formulas, formulas, TargetTree, target_member, target_frame, target_atom}
+use Rattle.prd_reader.specs.Trees.{ActionTree, assert, retract, retract_slot, retract_object, modify, ActionTrees}
+use Rattle.prd_reader.specs.Trees.{last_action, actions, BlockTree, acts, new_object, slot_value, SuchTrees}
+use Rattle.prd_reader.specs.Trees.{last_such, more_such, RuleTree, for_all, for_all_such, if_then, block, no_strategy}
+use Rattle.prd_reader.specs.Trees.{no_priority, priority, GroupTree, group, MemberTrees, no_members, rule_member}
+use Rattle.prd_reader.specs.Trees.{group_member, PrefixTrees, no_group, one_group, prefix, DocumentTree, document}
 use Rattle.prd_reader.specs.Values.{const_value, func_value, pred_value, priority_in, text_or}
 
 abbrev pub const_tree : Const → ConstTree

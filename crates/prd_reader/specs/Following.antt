@@ -2,14 +2,29 @@
 --     next w l      what comes in place of a want, behind a leaf; nothing where the leaf can't come
 --     after ws ls   what has still to come behind some leaves
 use Rattle.std.specs.Prelude.{◌≡◌, ℕ, if◌then◌else◌, List, [], ◌∷◌, ◌++◌, Option, Some, None, bytes_eq}
-use Rattle.prd_reader.specs.declared.leaf.Keyword.TheVariants.{Document as DocumentKey, Prefix, Group, Forall, Such, That as ThatKey, If, Then as ThenKey, Do as DoKey, New, Assert, Retract, Modify, And, Or, Not, INeg, Exists, External, True, False}
+use Rattle.prd_reader.specs.declared.leaf.Keyword.TheVariants.{Document as DocumentKey, Prefix, Group, Forall, Such}
+use Rattle.prd_reader.specs.declared.leaf.Keyword.TheVariants.{That as ThatKey, If, Then as ThenKey, Do as DoKey, New}
+use Rattle.prd_reader.specs.declared.leaf.Keyword.TheVariants.{Assert, Retract, Modify, And, Or, Not, INeg, Exists}
+use Rattle.prd_reader.specs.declared.leaf.Keyword.TheVariants.{External, True, False}
 use Rattle.prd_reader.specs.declared.leaf.Builtin.TheVariants.{Func as FuncBuiltin, Pred as PredBuiltin}
 use Rattle.prd_reader.specs.declared.leaf.BuiltinName.TheVariants.{Known, Unknown, Undeclared}
 use Rattle.prd_reader.specs.declared.leaf.Literal.TheVariants.{Iri as IriLiteral, Local as LocalLiteral}
 use Rattle.prd_reader.specs.declared.leaf.Leaf.{Leaf}
-use Rattle.prd_reader.specs.declared.leaf.Leaf.TheVariants.{Key, Word, Int, Str, Typed, TypeName as TypeLeaf, Iri, Curie, Builtin, Local, Var, Open as OpenLeaf, Close as CloseLeaf, OpenSquare as OpenSquareLeaf, CloseSquare as CloseSquareLeaf, Equal, Hash, Arrow as ArrowLeaf, Carets as CaretsLeaf}
+use Rattle.prd_reader.specs.declared.leaf.Leaf.TheVariants.{Key, Word, Int, Str, Typed, TypeName as TypeLeaf, Iri}
+use Rattle.prd_reader.specs.declared.leaf.Leaf.TheVariants.{Curie, Builtin, Local, Var, Open as OpenLeaf}
+use Rattle.prd_reader.specs.declared.leaf.Leaf.TheVariants.{Close as CloseLeaf, OpenSquare as OpenSquareLeaf}
+use Rattle.prd_reader.specs.declared.leaf.Leaf.TheVariants.{CloseSquare as CloseSquareLeaf, Equal, Hash}
+use Rattle.prd_reader.specs.declared.leaf.Leaf.TheVariants.{Arrow as ArrowLeaf, Carets as CaretsLeaf}
 use Rattle.prd_reader.specs.declared.want.Want.{Want}
-use Rattle.prd_reader.specs.declared.want.Want.TheVariants.{Document, Prefixes, PrefixName, PrefixIri, GroupHead, GroupPriority, Members, Rule, Variable, ForallRest, SuchRest, SuchBracket, Block, Actions, DeclVariable, DeclRest, SameVariable, Target, TargetTail, TargetAfterName, Retracted, RetractedTail, RetractedAfterName, Formula, Formulas, ExistsRest, BuiltinOfFormula, Tail, AfterName, Term, Terms, FuncName, Pairs, TypeName, Open, Close, OpenSquare, CloseSquare, Arrow, Carets, That, Then, Do}
+use Rattle.prd_reader.specs.declared.want.Want.TheVariants.{Document, Prefixes, PrefixName, PrefixIri, GroupHead}
+use Rattle.prd_reader.specs.declared.want.Want.TheVariants.{GroupPriority, Members, Rule, Variable, ForallRest}
+use Rattle.prd_reader.specs.declared.want.Want.TheVariants.{SuchRest, SuchBracket, Block, Actions, DeclVariable}
+use Rattle.prd_reader.specs.declared.want.Want.TheVariants.{DeclRest, SameVariable, Target, TargetTail}
+use Rattle.prd_reader.specs.declared.want.Want.TheVariants.{TargetAfterName, Retracted, RetractedTail}
+use Rattle.prd_reader.specs.declared.want.Want.TheVariants.{RetractedAfterName, Formula, Formulas, ExistsRest}
+use Rattle.prd_reader.specs.declared.want.Want.TheVariants.{BuiltinOfFormula, Tail, AfterName, Term, Terms, FuncName}
+use Rattle.prd_reader.specs.declared.want.Want.TheVariants.{Pairs, TypeName, Open, Close, OpenSquare, CloseSquare}
+use Rattle.prd_reader.specs.declared.want.Want.TheVariants.{Arrow, Carets, That, Then, Do}
 use Rattle.prd_reader.specs.Refusals.{IsDocument}
 use Rattle.prd_reader.specs.Trees.{DocumentTree, spell_document}
 

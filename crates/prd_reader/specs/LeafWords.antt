@@ -2,7 +2,8 @@
 --     inner_word_leaf t   the leaf of a word that is none of documents, groups and rules
 --     other_word_leaf t   the leaf of a word that the grammar doesn't spell
 use Rattle.std.specs.Prelude.{ℕ, ◌||◌, Bool, if◌then◌else◌, List, codes, bytes_eq, Option, Some, None}
-use Rattle.prd_reader.specs.declared.leaf.Keyword.TheVariants.{Assert, Retract, Modify, And, Or, Not, INeg, Exists, External, True, False}
+use Rattle.prd_reader.specs.declared.leaf.Keyword.TheVariants.{Assert, Retract, Modify, And, Or, Not, INeg, Exists}
+use Rattle.prd_reader.specs.declared.leaf.Keyword.TheVariants.{External, True, False}
 use Rattle.prd_reader.specs.Literals.{integer_of, is_integer_text}
 use Rattle.prd_reader.specs.declared.leaf.Literal.{Literal}
 use Rattle.prd_reader.specs.declared.leaf.Literal.TheVariants.{Integer}

@@ -1,20 +1,33 @@
 -- Tokens as the grammar sees them: each with what it stands for, given the tokens before it and behind it.
---     leaf_of prefixes front w rest   the leaf of a token, where these leaves stand before it, newest first, and these
+-- leaf_of prefixes front w rest the leaf of a token, where these leaves stand before it, newest first, and these
 --                                     tokens behind it
 --     leaves_from                     the leaves of tokens behind a front
 --     leaves_of bytes tokens          the leaves of a document's tokens
 -- Source: the project's own (docs/FORMATS.md, "Grammar" and "Names").
-use Rattle.std.specs.Prelude.{ℕ, ◌-◌, ◌==◌, ◌||◌, Bool, true, false, if◌then◌else◌, List, [], ◌∷◌, ◌++◌, take, drop, length, map, Option, Some, None, codes, bytes_eq, suc}
-use Rattle.rif_lex.specs.declared.token.Kind.TheVariants.{Word, Curie, Local, Var, Int, Str, Iri, Open, Close, OpenSquare, CloseSquare, Equal, Hash, HashHash, Arrow, Carets}
+use Rattle.std.specs.Prelude.{ℕ, ◌-◌, ◌==◌, ◌||◌, Bool, true, false, if◌then◌else◌, List, [], ◌∷◌, ◌++◌, take, drop}
+use Rattle.std.specs.Prelude.{length, map, Option, Some, None, codes, bytes_eq, suc}
+use Rattle.rif_lex.specs.declared.token.Kind.TheVariants.{Word, Curie, Local, Var, Int, Str, Iri, Open, Close}
+use Rattle.rif_lex.specs.declared.token.Kind.TheVariants.{OpenSquare, CloseSquare, Equal, Hash, HashHash, Arrow}
+use Rattle.rif_lex.specs.declared.token.Kind.TheVariants.{Carets}
 use Rattle.rif_lex.specs.declared.token.Token.{Token}
 use Rattle.rif_lex.specs.Spelling.{Written, written}
-use Rattle.prd_reader.specs.declared.leaf.Keyword.TheVariants.{Document, Prefix, Group, Forall, Such, That, If, Then, Do, New, Assert, Retract, Modify, And, Or, Not, INeg, Exists, External, True, False}
+use Rattle.prd_reader.specs.declared.leaf.Keyword.TheVariants.{Document, Prefix, Group, Forall, Such, That, If, Then}
+use Rattle.prd_reader.specs.declared.leaf.Keyword.TheVariants.{Do, New, Assert, Retract, Modify, And, Or, Not, INeg}
+use Rattle.prd_reader.specs.declared.leaf.Keyword.TheVariants.{Exists, External, True, False}
 use Rattle.prd_reader.specs.declared.leaf.BuiltinName.{BuiltinName}
 use Rattle.prd_reader.specs.declared.leaf.BuiltinName.TheVariants.{Undeclared}
 use Rattle.prd_reader.specs.declared.leaf.Literal.{Literal}
 use Rattle.prd_reader.specs.declared.leaf.Literal.TheVariants.{OfNoType}
 use Rattle.prd_reader.specs.declared.leaf.Leaf.{Leaf}
-use Rattle.prd_reader.specs.declared.leaf.Leaf.TheVariants.{Key, LeftOut, Word as WordLeaf, Int as IntLeaf, Str as StrLeaf, Typed, Misspelled, TypeName as TypeLeaf, Iri as IriLeaf, Curie as CurieLeaf, Builtin as BuiltinLeaf, Local as LocalLeaf, Var as VarLeaf, Open as OpenLeaf, Close as CloseLeaf, OpenSquare as OpenSquareLeaf, CloseSquare as CloseSquareLeaf, Equal as EqualLeaf, Hash as HashLeaf, Arrow as ArrowLeaf, Carets as CaretsLeaf}
+use Rattle.prd_reader.specs.declared.leaf.Leaf.TheVariants.{Key, LeftOut, Word as WordLeaf, Int as IntLeaf}
+use Rattle.prd_reader.specs.declared.leaf.Leaf.TheVariants.{Str as StrLeaf, Typed, Misspelled, TypeName as TypeLeaf}
+use Rattle.prd_reader.specs.declared.leaf.Leaf.TheVariants.{Iri as IriLeaf, Curie as CurieLeaf}
+use Rattle.prd_reader.specs.declared.leaf.Leaf.TheVariants.{Builtin as BuiltinLeaf, Local as LocalLeaf}
+use Rattle.prd_reader.specs.declared.leaf.Leaf.TheVariants.{Var as VarLeaf, Open as OpenLeaf, Close as CloseLeaf}
+use Rattle.prd_reader.specs.declared.leaf.Leaf.TheVariants.{OpenSquare as OpenSquareLeaf}
+use Rattle.prd_reader.specs.declared.leaf.Leaf.TheVariants.{CloseSquare as CloseSquareLeaf, Equal as EqualLeaf}
+use Rattle.prd_reader.specs.declared.leaf.Leaf.TheVariants.{Hash as HashLeaf, Arrow as ArrowLeaf}
+use Rattle.prd_reader.specs.declared.leaf.Leaf.TheVariants.{Carets as CaretsLeaf}
 use Rattle.prd_reader.specs.Builtins.{builtin_named}
 use Rattle.prd_reader.specs.Literals.{integer_of, unescaped, is_type, literal_of}
 use Rattle.prd_reader.specs.Prefixes.{Prefixes, meaning_in, with_prefix}
@@ -43,7 +56,8 @@ word_leaf t =
     else (if bytes_eq t (codes "External") then Key External
     else (if bytes_eq t (codes "true") then Key True
     else (if bytes_eq t (codes "false") then Key False
-    else (if bytes_eq t (codes "Base") || (bytes_eq t (codes "Import") || (bytes_eq t (codes "Execute") || bytes_eq t (codes "List"))) then LeftOut
+    else (if bytes_eq t (codes "Base") ||
+    (bytes_eq t (codes "Import") || (bytes_eq t (codes "Execute") || bytes_eq t (codes "List"))) then LeftOut
     else WordLeaf t)))))))))))))))))))))
 
 -- straight behind these leaves, of which the newest stands first

@@ -1,10 +1,11 @@
 -- Typed literals, integers and strings by their texts.
 --     integer_of text       the integer of digits with a sign, and none where it is out of range
 --     unescaped text        a string's text, with its escapes undone
---     literal_of iri text   the text of a typed literal as its type reads it, and nothing where it isn't a spelling of it
+-- literal_of iri text the text of a typed literal as its type reads it, and nothing where it isn't a spelling of it
 -- Source: the project's own (docs/FORMATS.md, "Tokens" and "Typed literals"); the types are RIF-DTB's, "Constants and
 -- Symbol Spaces".
-use Rattle.std.specs.Prelude.{ℕ, ◌==◌, ◌&&◌, ◌||◌, nat_le, ℤ, int_le, Bool, true, false, if◌then◌else◌, List, [], ◌∷◌, ◌++◌, length, codes, bytes_eq, Option, Some, None}
+use Rattle.std.specs.Prelude.{ℕ, ◌==◌, ◌&&◌, ◌||◌, nat_le, ℤ, int_le, Bool, true, false, if◌then◌else◌, List, [], ◌∷◌}
+use Rattle.std.specs.Prelude.{◌++◌, length, codes, bytes_eq, Option, Some, None}
 use Rattle.std.specs.List.{list_all}
 use Rattle.std.specs.Str.Parse.{signed_digits_value, without_leading_sign}
 use Rattle.rif_terms.specs.declared.integer.TheConstants.{LEAST_INTEGER, GREATEST_INTEGER}
@@ -64,9 +65,11 @@ is_type iri =
 
 abbrev pub literal_of : List ℕ → List ℕ → Option Literal
 literal_of iri text =
-    if bytes_eq iri (xs_namespace ++ codes "integer") then (if is_integer_text text then Some (Integer (integer_of text)) else None)
+    if bytes_eq iri (xs_namespace ++ codes "integer") then
+    (if is_integer_text text then Some (Integer (integer_of text)) else None)
     else (if bytes_eq iri (xs_namespace ++ codes "boolean") then boolean_of text
     else (if bytes_eq iri (xs_namespace ++ codes "string") then Some (String text)
     else (if bytes_eq iri (rif_namespace ++ codes "iri") then (if is_iri_text text then Some (Iri text) else None)
-    else (if bytes_eq iri (rif_namespace ++ codes "local") then (if is_name_text text then Some (Local text) else None)
+    else (if bytes_eq iri (rif_namespace ++ codes "local") then
+    (if is_name_text text then Some (Local text) else None)
     else Some OfNoType))))

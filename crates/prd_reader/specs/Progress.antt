@@ -2,12 +2,16 @@
 --     Progress           the open brackets, the rule that is being read, and its counts
 --     progress_of ls     what the leaves lead to from the beginning
 -- Source: the project's own (docs/FORMATS.md, "Refusals").
-use Rattle.std.specs.Prelude.{ℕ, ◌==◌, ◌&&◌, ◌||◌, not, Bool, true, false, if◌then◌else◌, List, [], ◌∷◌, ◌++◌, length, Option, Some, None, suc}
-use Rattle.prd_reader.specs.declared.leaf.Keyword.TheVariants.{Group, Forall, If, Do, Assert, Retract, Modify, External, True, False}
+use Rattle.std.specs.Prelude.{ℕ, ◌==◌, ◌&&◌, ◌||◌, not, Bool, true, false, if◌then◌else◌, List, [], ◌∷◌, ◌++◌, length}
+use Rattle.std.specs.Prelude.{Option, Some, None, suc}
+use Rattle.prd_reader.specs.declared.leaf.Keyword.TheVariants.{Group, Forall, If, Do, Assert, Retract, Modify}
+use Rattle.prd_reader.specs.declared.leaf.Keyword.TheVariants.{External, True, False}
 use Rattle.prd_reader.specs.declared.leaf.BuiltinName.TheVariants.{Known}
 use Rattle.prd_reader.specs.declared.leaf.Literal.TheVariants.{Iri as IriLiteral, Local as LocalLiteral}
 use Rattle.prd_reader.specs.declared.leaf.Leaf.{Leaf}
-use Rattle.prd_reader.specs.declared.leaf.Leaf.TheVariants.{Key, Int, Str, Typed, TypeName as TypeLeaf, Iri, Curie, Builtin as BuiltinLeaf, Local, Var, Open, Close, OpenSquare, CloseSquare, Equal, Hash, Arrow, Carets}
+use Rattle.prd_reader.specs.declared.leaf.Leaf.TheVariants.{Key, Int, Str, Typed, TypeName as TypeLeaf, Iri, Curie}
+use Rattle.prd_reader.specs.declared.leaf.Leaf.TheVariants.{Builtin as BuiltinLeaf, Local, Var, Open, Close}
+use Rattle.prd_reader.specs.declared.leaf.Leaf.TheVariants.{OpenSquare, CloseSquare, Equal, Hash, Arrow, Carets}
 use Rattle.prd_reader.specs.declared.progress.Bracket.{Bracket}
 use Rattle.prd_reader.specs.declared.progress.Bracket.TheVariants.{Plain, Arguments}
 use Rattle.prd_reader.specs.Values.{names_with}

@@ -1,5 +1,6 @@
 -- The code's progress. No public clause cites this module.
-use Rattle.std.specs.Prelude.{◌≡◌, ◌==◌, if◌then◌else◌, ◌&&◌, ◌<◌, ◌+◌, ◌^◌, ℕ, Bool, not, false, List, [], ◌∷◌, Option, Some, None}
+use Rattle.std.specs.Prelude.{◌≡◌, ◌==◌, if◌then◌else◌, ◌&&◌, ◌<◌, ◌+◌, ◌^◌, ℕ, Bool, not, false, List, [], ◌∷◌}
+use Rattle.std.specs.Prelude.{Option, Some, None}
 use Rattle.prd_reader.specs.declared.leaf.Literal.TheVariants.{Iri as IriLiteral, Local as LocalLiteral}
 use Rattle.prd_reader.specs.declared.leaf.Leaf.{Leaf}
 use Rattle.prd_reader.specs.declared.leaf.Leaf.TheVariants.{Typed, TypeName, Iri, Curie, Local, Carets}
@@ -7,7 +8,8 @@ use Rattle.prd_reader.specs.declared.progress.Bracket.{Bracket}
 use Rattle.prd_reader.specs.declared.progress.Bracket.TheVariants.{Arguments}
 use Rattle.prd_reader.specs.declared.counting.RuleReading.{RuleReading}
 use Rattle.prd_reader.specs.declared.progress.Reading.{Reading}
-use Rattle.prd_reader.specs.Progress.{Progress, Counts, begins_rule, counts_with, is_close, names_ended, no_counts, progress_with, takes_term}
+use Rattle.prd_reader.specs.Progress.{Progress, Counts, begins_rule, counts_with, is_close, names_ended, no_counts}
+use Rattle.prd_reader.specs.Progress.{progress_with, takes_term}
 
 -- one argument more can be counted
 abbrev pub HasRoom : List Bracket → Type 0
@@ -27,7 +29,14 @@ name_with named last _ = false
 
 -- the progress of the code
 abbrev pub counts_seen : RuleReading → Counts
-counts_seen c = record { around = c.around; in_block = c.in_block; names = c.names; patterns = c.patterns; actions = c.actions }
+counts_seen c = record {
+  around = c.around;
+  in_block = c.in_block;
+  names = c.names;
+  patterns = c.patterns;
+  actions =
+      c.actions;
+}
 
 abbrev pub rule_seen : Option RuleReading → Option Counts
 rule_seen None = None
@@ -78,7 +87,8 @@ names_seen (Some names) = names ∷ []
 
 -- the rule behind a leaf, and the names of one that ends at it, from the rule to which the leaf belongs
 abbrev pub RuleGoes : ℕ → Bool → Option Counts → Leaf → Option RuleReading → Option (List (List ℕ)) → Type 0
-RuleGoes behind named o l rule ended = (rule_seen rule ≡ rule_kept behind named o l) × (names_seen ended ≡ names_given behind o l)
+RuleGoes behind named o l rule ended =
+    (rule_seen rule ≡ rule_kept behind named o l) × (names_seen ended ≡ names_given behind o l)
 
 -- the progress behind a leaf, and the names of a rule that ends at it
 abbrev pub ReadingGoes : Progress → Leaf → Reading → Option (List (List ℕ)) → Type 0

@@ -1,8 +1,10 @@
 -- How the code goes through leaves. No public clause cites this module.
-use Rattle.std.specs.Prelude.{◌≡◌, ◌≤◌, ◌<◌, ◌+◌, ◌⊎◌, ℕ, Bool, List, [], length, take, get_or, Option, Some, None, MatchBool}
+use Rattle.std.specs.Prelude.{◌≡◌, ◌≤◌, ◌<◌, ◌+◌, ◌⊎◌, ℕ, Bool, List, [], length, take, get_or, Option, Some, None}
+use Rattle.std.specs.Prelude.{MatchBool}
 use Rattle.prd_reader.specs.declared.leaf.Leaf.{Leaf}
 use Rattle.prd_reader.specs.declared.want.Want.{Want}
-use Rattle.prd_reader.specs.declared.want.Want.TheVariants.{PrefixName, PrefixIri, Variable, TypeName, Open, Close, OpenSquare, CloseSquare, Arrow, Carets, That, Then, Do}
+use Rattle.prd_reader.specs.declared.want.Want.TheVariants.{PrefixName, PrefixIri, Variable, TypeName, Open, Close}
+use Rattle.prd_reader.specs.declared.want.Want.TheVariants.{OpenSquare, CloseSquare, Arrow, Carets, That, Then, Do}
 use Rattle.prd_reader.specs.declared.cause.Cause.{Cause}
 use Rattle.prd_reader.specs.declared.cause.Cause.TheVariants.{Expected}
 use Rattle.prd_reader.specs.declared.recognizing.Outcome.{Outcome}
@@ -38,7 +40,8 @@ IsFixed _ = ⊥
 -- How the code stops at a place: what stands before it is followed, and this decides.
 pub record Halts (ls : List Leaf) (place : ℕ) (cause : Cause) : Type 0 where
   pub within : place ≤ length ls
-  pub front : (stack : List Want) × (after at_first (take place ls) ≡ Some stack) × (place ≡ length ls → stack ≡ [] → ⊥)
+  pub front : (stack : List Want) × (after at_first (take place ls) ≡ Some stack)
+      × (place ≡ length ls → stack ≡ [] → ⊥)
   pub clear : IsClear ls place
   pub here : (d : Leaf) → place < length ls →
       ((after at_first (take (place + 1) ls) ≡ None) × (cause ≡ unexpected (get_or ls place d)))
@@ -56,7 +59,8 @@ abbrev pub Recognizes : List Leaf → Outcome → Type 0
 Recognizes ls (DocumentOutcome names) = Passes ls names
 Recognizes ls (Refused place cause) = Halts ls place cause
 
--- What leaves lead to: a document at which no refusal stands, with the names of its rules, or the refusal that decides.
+-- What leaves lead to: a document at which no refusal stands, with the names of its rules, or the refusal that
+-- decides.
 abbrev pub LeadsTo : List Leaf → Outcome → Type 0
 LeadsTo ls (DocumentOutcome names) = IsDocument ls × IsClear ls (length ls) × (names ≡ names_read at_start ls)
 LeadsTo ls (Refused place cause) = IsRefusedAt ls place cause

@@ -4,17 +4,32 @@
 --     IsFront ls                  some document begins with these leaves
 --     IsRefusedAt ls place cause  the first leaf at which a refusal stands, and the one that decides there
 -- Source: the project's own (docs/FORMATS.md, "Refusals").
-use Rattle.std.specs.Prelude.{◌≡◌, ◌⊎◌, ◌≤◌, ◌<◌, ℕ, ◌+◌, ◌&&◌, not, nat_le, ℤ, neg_ℤ, int_le, Bool, true, false, if◌then◌else◌, List, ◌∷◌, ◌++◌, length, take, get_or, Option, Some, None, codes, bytes_eq}
-use Rattle.rif_terms.specs.declared.limits.TheConstants.{MOST_OPEN_BRACKETS, MOST_RULES, MOST_VARIABLES, MOST_PATTERNS, MOST_ACTIONS, MOST_PRIORITY}
+use Rattle.std.specs.Prelude.{◌≡◌, ◌⊎◌, ◌≤◌, ◌<◌, ℕ, ◌+◌, ◌&&◌, not, nat_le, ℤ, neg_ℤ, int_le, Bool, true, false}
+use Rattle.std.specs.Prelude.{if◌then◌else◌, List, ◌∷◌, ◌++◌, length, take, get_or, Option, Some, None, codes}
+use Rattle.std.specs.Prelude.{bytes_eq}
+use Rattle.rif_terms.specs.declared.limits.TheConstants.{MOST_OPEN_BRACKETS, MOST_RULES, MOST_VARIABLES}
+use Rattle.rif_terms.specs.declared.limits.TheConstants.{MOST_PATTERNS, MOST_ACTIONS, MOST_PRIORITY}
 use Rattle.rif_terms.specs.declared.refusal.Counted.TheVariants.{Rules, Variables, Patterns, Actions}
 use Rattle.rif_terms.specs.declared.refusal.Refusal.{Refusal}
-use Rattle.rif_terms.specs.declared.refusal.Refusal.TheVariants.{Expected as ExpectedRefusal, TooDeep as TooDeepRefusal, IntRange as IntRangeRefusal, UnknownPrefix as UnknownPrefixRefusal, LeftOut as LeftOutRefusal, UnknownBuiltin as UnknownBuiltinRefusal, Arity as ArityRefusal, BadStrategy as BadStrategyRefusal, PriorityRange as PriorityRangeRefusal, TooMany as TooManyRefusal}
+use Rattle.rif_terms.specs.declared.refusal.Refusal.TheVariants.{Expected as ExpectedRefusal}
+use Rattle.rif_terms.specs.declared.refusal.Refusal.TheVariants.{TooDeep as TooDeepRefusal}
+use Rattle.rif_terms.specs.declared.refusal.Refusal.TheVariants.{IntRange as IntRangeRefusal}
+use Rattle.rif_terms.specs.declared.refusal.Refusal.TheVariants.{UnknownPrefix as UnknownPrefixRefusal}
+use Rattle.rif_terms.specs.declared.refusal.Refusal.TheVariants.{LeftOut as LeftOutRefusal}
+use Rattle.rif_terms.specs.declared.refusal.Refusal.TheVariants.{UnknownBuiltin as UnknownBuiltinRefusal}
+use Rattle.rif_terms.specs.declared.refusal.Refusal.TheVariants.{Arity as ArityRefusal}
+use Rattle.rif_terms.specs.declared.refusal.Refusal.TheVariants.{BadStrategy as BadStrategyRefusal}
+use Rattle.rif_terms.specs.declared.refusal.Refusal.TheVariants.{PriorityRange as PriorityRangeRefusal}
+use Rattle.rif_terms.specs.declared.refusal.Refusal.TheVariants.{TooMany as TooManyRefusal}
 use Rattle.prd_reader.specs.declared.cause.Cause.{Cause}
-use Rattle.prd_reader.specs.declared.cause.Cause.TheVariants.{Expected, TooDeep, IntRange, UnknownPrefix, LeftOut, UnknownBuiltin, Arity, BadStrategy, PriorityRange, TooMany}
+use Rattle.prd_reader.specs.declared.cause.Cause.TheVariants.{Expected, TooDeep, IntRange, UnknownPrefix, LeftOut}
+use Rattle.prd_reader.specs.declared.cause.Cause.TheVariants.{UnknownBuiltin, Arity, BadStrategy, PriorityRange}
+use Rattle.prd_reader.specs.declared.cause.Cause.TheVariants.{TooMany}
 use Rattle.prd_reader.specs.declared.leaf.BuiltinName.TheVariants.{Unknown, Undeclared}
 use Rattle.prd_reader.specs.declared.leaf.Literal.TheVariants.{Integer}
 use Rattle.prd_reader.specs.declared.leaf.Leaf.{Leaf}
-use Rattle.prd_reader.specs.declared.leaf.Leaf.TheVariants.{LeftOut as LeftOutLeaf, Int, Typed, TypeName as TypeLeaf, Iri, Curie, Builtin, Var, Open, Close, OpenSquare}
+use Rattle.prd_reader.specs.declared.leaf.Leaf.TheVariants.{LeftOut as LeftOutLeaf, Int, Typed, TypeName as TypeLeaf}
+use Rattle.prd_reader.specs.declared.leaf.Leaf.TheVariants.{Iri, Curie, Builtin, Var, Open, Close, OpenSquare}
 use Rattle.prd_reader.specs.declared.progress.Bracket.{Bracket}
 use Rattle.prd_reader.specs.declared.progress.Bracket.TheVariants.{Arguments}
 use Rattle.prd_reader.specs.Builtins.{takes}

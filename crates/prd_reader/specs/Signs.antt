@@ -1,26 +1,41 @@
--- What leaves begin, as far as the builder looks: by the first leaf, or by one close behind it. The leaves are known to
+-- What leaves begin, as far as the builder looks: by the first leaf, or by one close behind it. The leaves are known
+-- to
 -- be of a document, so that one leaf decides. No public clause cites this module.
-use Rattle.std.specs.Prelude.{ℕ, ℤ, pos, Bool, true, false, not, ◌&&◌, if◌then◌else◌, List, [], ◌∷◌, Option, Some, None, drop}
+use Rattle.std.specs.Prelude.{ℕ, ℤ, pos, Bool, true, false, not, ◌&&◌, if◌then◌else◌, List, [], ◌∷◌, Option, Some}
+use Rattle.std.specs.Prelude.{None, drop}
 use Rattle.rif_terms.specs.declared.builtin.Func.{Func}
 use Rattle.rif_terms.specs.declared.builtin.Func.TheVariants.{NumericAdd}
 use Rattle.rif_terms.specs.declared.builtin.Pred.TheVariants.{NumericEqual}
 use Rattle.rif_terms.specs.declared.constant.Const.{Const}
-use Rattle.rif_terms.specs.declared.constant.Const.TheVariants.{Int as IntConst, Bool as BoolConst, Str as StrConst, Iri as IriConst, Local as LocalConst}
-use Rattle.prd_reader.specs.declared.leaf.Keyword.TheVariants.{Prefix, Group, Forall, Such, If, Do, New, Retract, Modify, And, Or, Not, INeg, Exists, External, True}
+use Rattle.rif_terms.specs.declared.constant.Const.TheVariants.{Int as IntConst, Bool as BoolConst, Str as StrConst}
+use Rattle.rif_terms.specs.declared.constant.Const.TheVariants.{Iri as IriConst, Local as LocalConst}
+use Rattle.prd_reader.specs.declared.leaf.Keyword.TheVariants.{Prefix, Group, Forall, Such, If, Do, New, Retract}
+use Rattle.prd_reader.specs.declared.leaf.Keyword.TheVariants.{Modify, And, Or, Not, INeg, Exists, External, True}
 use Rattle.prd_reader.specs.declared.leaf.Builtin.TheVariants.{Func as FuncBuiltin, Pred as PredBuiltin}
 use Rattle.prd_reader.specs.declared.leaf.BuiltinName.TheVariants.{Known}
 use Rattle.prd_reader.specs.declared.leaf.Leaf.{Leaf}
-use Rattle.prd_reader.specs.declared.leaf.Leaf.TheVariants.{Key, Int, Str, Typed, Iri, Curie, Builtin, Local, Var, Open, Close, OpenSquare, CloseSquare, Equal, Hash}
+use Rattle.prd_reader.specs.declared.leaf.Leaf.TheVariants.{Key, Int, Str, Typed, Iri, Curie, Builtin, Local, Var}
+use Rattle.prd_reader.specs.declared.leaf.Leaf.TheVariants.{Open, Close, OpenSquare, CloseSquare, Equal, Hash}
 use Rattle.prd_reader.specs.declared.building.signs.TermSign.{TermSign}
 use Rattle.prd_reader.specs.declared.building.signs.TermSign.TheVariants.{Variable, Call, Constant}
 use Rattle.prd_reader.specs.declared.building.signs.FormulaSign.{FormulaSign}
-use Rattle.prd_reader.specs.declared.building.signs.FormulaSign.TheVariants.{And as AndSign, Or as OrSign, Not as NotSign, Exists as ExistsSign, Grouped as GroupedSign, Holds as HoldsSign, Atom as AtomSign, Term as FirstSign}
+use Rattle.prd_reader.specs.declared.building.signs.FormulaSign.TheVariants.{And as AndSign, Or as OrSign}
+use Rattle.prd_reader.specs.declared.building.signs.FormulaSign.TheVariants.{Not as NotSign, Exists as ExistsSign}
+use Rattle.prd_reader.specs.declared.building.signs.FormulaSign.TheVariants.{Grouped as GroupedSign}
+use Rattle.prd_reader.specs.declared.building.signs.FormulaSign.TheVariants.{Holds as HoldsSign, Atom as AtomSign}
+use Rattle.prd_reader.specs.declared.building.signs.FormulaSign.TheVariants.{Term as FirstSign}
 use Rattle.prd_reader.specs.declared.building.signs.TailSign.{TailSign}
-use Rattle.prd_reader.specs.declared.building.signs.TailSign.TheVariants.{Equal as EqualSign, Member as MemberOf, Pairs as PairsSign, Close as CloseSign, Other as OtherSign}
+use Rattle.prd_reader.specs.declared.building.signs.TailSign.TheVariants.{Equal as EqualSign, Member as MemberOf}
+use Rattle.prd_reader.specs.declared.building.signs.TailSign.TheVariants.{Pairs as PairsSign, Close as CloseSign}
+use Rattle.prd_reader.specs.declared.building.signs.TailSign.TheVariants.{Other as OtherSign}
 use Rattle.prd_reader.specs.declared.building.signs.ActionSign.{ActionSign}
-use Rattle.prd_reader.specs.declared.building.signs.ActionSign.TheVariants.{Assert as AssertSign, Retract as RetractSign, Modify as ModifySign}
+use Rattle.prd_reader.specs.declared.building.signs.ActionSign.TheVariants.{Assert as AssertSign}
+use Rattle.prd_reader.specs.declared.building.signs.ActionSign.TheVariants.{Retract as RetractSign}
+use Rattle.prd_reader.specs.declared.building.signs.ActionSign.TheVariants.{Modify as ModifySign}
 use Rattle.prd_reader.specs.declared.building.signs.MemberSign.{MemberSign}
-use Rattle.prd_reader.specs.declared.building.signs.MemberSign.TheVariants.{Close as MembersEnd, Prefix as PrefixMember, Group as GroupMember, Rule as RuleMember}
+use Rattle.prd_reader.specs.declared.building.signs.MemberSign.TheVariants.{Close as MembersEnd}
+use Rattle.prd_reader.specs.declared.building.signs.MemberSign.TheVariants.{Prefix as PrefixMember}
+use Rattle.prd_reader.specs.declared.building.signs.MemberSign.TheVariants.{Group as GroupMember, Rule as RuleMember}
 use Rattle.prd_reader.specs.Values.{integer_or, text_or, literal_value}
 
 -- the first leaf; the end is seen as a bracket that closes

@@ -4,13 +4,17 @@
 use Rattle.std.specs.Prelude.{ℤ, ℕ, Bool, List, [], ◌∷◌, ◌++◌, Option}
 use Rattle.rif_terms.specs.declared.builtin.Func.{Func}
 use Rattle.rif_terms.specs.declared.builtin.Pred.{Pred}
-use Rattle.prd_reader.specs.declared.leaf.Keyword.TheVariants.{Document, Prefix, Group, Forall, Such, That, If, Then, Do, New, Assert, Retract, Modify, And, Or, Not, INeg, Exists, External, True, False}
+use Rattle.prd_reader.specs.declared.leaf.Keyword.TheVariants.{Document, Prefix, Group, Forall, Such, That, If, Then}
+use Rattle.prd_reader.specs.declared.leaf.Keyword.TheVariants.{Do, New, Assert, Retract, Modify, And, Or, Not, INeg}
+use Rattle.prd_reader.specs.declared.leaf.Keyword.TheVariants.{Exists, External, True, False}
 use Rattle.prd_reader.specs.declared.leaf.Builtin.TheVariants.{Func as FuncBuiltin, Pred as PredBuiltin}
 use Rattle.prd_reader.specs.declared.leaf.BuiltinName.TheVariants.{Known, Unknown, Undeclared}
 use Rattle.prd_reader.specs.declared.leaf.Literal.{Literal}
 use Rattle.prd_reader.specs.declared.leaf.Literal.TheVariants.{Iri as IriLiteral, Local as LocalLiteral}
 use Rattle.prd_reader.specs.declared.leaf.Leaf.{Leaf}
-use Rattle.prd_reader.specs.declared.leaf.Leaf.TheVariants.{Key, Word, Int, Str, Typed, TypeName as TypeLeaf, Iri, Curie, Builtin, Local, Var, Open, Close, OpenSquare, CloseSquare, Equal, Hash, Arrow, Carets}
+use Rattle.prd_reader.specs.declared.leaf.Leaf.TheVariants.{Key, Word, Int, Str, Typed, TypeName as TypeLeaf, Iri}
+use Rattle.prd_reader.specs.declared.leaf.Leaf.TheVariants.{Curie, Builtin, Local, Var, Open, Close, OpenSquare}
+use Rattle.prd_reader.specs.declared.leaf.Leaf.TheVariants.{CloseSquare, Equal, Hash, Arrow, Carets}
 
 -- Const = INT | STRING | STRING '^^' (IRI | CURIE) | IRI | CURIE | LOCAL | 'true' | 'false'
 pub data ConstTree : Type 0 where
@@ -220,7 +224,8 @@ abbrev pub spell_block : BlockTree → List Leaf
 spell_block (acts a) = spell_actions a
 spell_block (new_object v b) = Open ∷ Var v ∷ Key New ∷ Open ∷ Close ∷ Close ∷ spell_block b
 spell_block (slot_value v o s b) =
-    Open ∷ Var v ∷ (spell_term o ++ OpenSquare ∷ (spell_term s ++ Arrow ∷ Var v ∷ CloseSquare ∷ Close ∷ spell_block b))
+    Open ∷ Var v ∷ (spell_term o ++ OpenSquare
+    ∷ (spell_term s ++ Arrow ∷ Var v ∷ CloseSquare ∷ Close ∷ spell_block b))
 
 -- Formula+ '('
 pub data SuchTrees : Type 0 where

@@ -1,7 +1,8 @@
 -- The document that a tree stands for. In it a variable is its place in its rule's names, and what has a refusal of
 -- its own stands for some value that is never read.
 -- Source: the project's own (docs/FORMATS.md, "The document's tree").
-use Rattle.std.specs.Prelude.{ℕ, ℤ, pos, Bool, true, false, if◌then◌else◌, List, [], ◌∷◌, ◌++◌, Option, Some, None, bytes_eq, suc}
+use Rattle.std.specs.Prelude.{ℕ, ℤ, pos, Bool, true, false, if◌then◌else◌, List, [], ◌∷◌, ◌++◌, Option, Some, None}
+use Rattle.std.specs.Prelude.{bytes_eq, suc}
 use Rattle.std.specs.List.{list_any}
 use Rattle.rif_terms.specs.declared.builtin.Func.{Func}
 use Rattle.rif_terms.specs.declared.builtin.Func.TheVariants.{NumericAdd}
@@ -15,7 +16,8 @@ use Rattle.rif_terms.specs.declared.tree.Formula.{Formula}
 use Rattle.rif_terms.specs.declared.tree.Formula.TheVariants.{And, Or, Not, Exists, Equal, Member, Frame, Atom, Holds}
 use Rattle.rif_terms.specs.declared.tree.Level.{Level}
 use Rattle.rif_terms.specs.declared.rule.Target.{Target}
-use Rattle.rif_terms.specs.declared.rule.Target.TheVariants.{Atom as AtomTarget, Frame as FrameTarget, Member as MemberTarget}
+use Rattle.rif_terms.specs.declared.rule.Target.TheVariants.{Atom as AtomTarget, Frame as FrameTarget}
+use Rattle.rif_terms.specs.declared.rule.Target.TheVariants.{Member as MemberTarget}
 use Rattle.rif_terms.specs.declared.rule.Action.{Action}
 use Rattle.rif_terms.specs.declared.rule.Action.TheVariants.{Assert, Retract, RetractSlot, RetractObject, Modify}
 use Rattle.rif_terms.specs.declared.rule.Decl.{Decl}
@@ -23,11 +25,24 @@ use Rattle.rif_terms.specs.declared.rule.Decl.TheVariants.{Slot, New}
 use Rattle.rif_terms.specs.declared.rule.Rule.{Rule}
 use Rattle.rif_terms.specs.declared.rule.Doc.{Doc}
 use Rattle.prd_reader.specs.declared.leaf.Literal.{Literal}
-use Rattle.prd_reader.specs.declared.leaf.Literal.TheVariants.{Integer, Boolean, String, Iri as IriLiteral, Local as LocalLiteral, OfNoType}
+use Rattle.prd_reader.specs.declared.leaf.Literal.TheVariants.{Integer, Boolean, String, Iri as IriLiteral}
+use Rattle.prd_reader.specs.declared.leaf.Literal.TheVariants.{Local as LocalLiteral, OfNoType}
 use Rattle.prd_reader.specs.declared.leaf.Leaf.{Leaf}
 use Rattle.prd_reader.specs.declared.leaf.Leaf.TheVariants.{Var as VarLeaf}
 use Rattle.prd_reader.specs.Prefixes.{Prefixes, with_prefix}
-use Rattle.prd_reader.specs.Trees.{ConstTree, const_int, const_string, const_typed, const_iri, const_curie, const_local, const_true, const_false, NameTree, const_of_name, FuncTree, func_known, func_unknown, func_undeclared, TermTree, constant, variable, call, TermTrees, no_terms, terms, PairTrees, last_pair, pairs, Tail, equals, member_of, with_pairs, Vars, one_var, more_vars, term_of_first, PredTree, pred_known, pred_unknown, pred_undeclared, FormulaTree, conj, disj, neg, some, grouped, holds, compared, atom, FormulaTrees, no_formulas, formulas, TargetTree, target_member, target_frame, target_atom, ActionTree, assert, retract, retract_slot, retract_object, modify, ActionTrees, last_action, actions, BlockTree, acts, new_object, slot_value, SuchTrees, last_such, more_such, RuleTree, for_all, for_all_such, if_then, block, spell_rule, PriorityTree, no_priority, priority, GroupTree, group, MemberTrees, no_members, rule_member, group_member, PrefixTrees, no_group, one_group, prefix, DocumentTree, document}
+use Rattle.prd_reader.specs.Trees.{ConstTree, const_int, const_string, const_typed, const_iri, const_curie}
+use Rattle.prd_reader.specs.Trees.{const_local, const_true, const_false, NameTree, const_of_name, FuncTree}
+use Rattle.prd_reader.specs.Trees.{func_known, func_unknown, func_undeclared, TermTree, constant, variable, call}
+use Rattle.prd_reader.specs.Trees.{TermTrees, no_terms, terms, PairTrees, last_pair, pairs, Tail, equals, member_of}
+use Rattle.prd_reader.specs.Trees.{with_pairs, Vars, one_var, more_vars, term_of_first, PredTree, pred_known}
+use Rattle.prd_reader.specs.Trees.{pred_unknown, pred_undeclared, FormulaTree, conj, disj, neg, some, grouped, holds}
+use Rattle.prd_reader.specs.Trees.{compared, atom, FormulaTrees, no_formulas, formulas, TargetTree, target_member}
+use Rattle.prd_reader.specs.Trees.{target_frame, target_atom, ActionTree, assert, retract, retract_slot}
+use Rattle.prd_reader.specs.Trees.{retract_object, modify, ActionTrees, last_action, actions, BlockTree, acts}
+use Rattle.prd_reader.specs.Trees.{new_object, slot_value, SuchTrees, last_such, more_such, RuleTree, for_all}
+use Rattle.prd_reader.specs.Trees.{for_all_such, if_then, block, spell_rule, PriorityTree, no_priority, priority}
+use Rattle.prd_reader.specs.Trees.{GroupTree, group, MemberTrees, no_members, rule_member, group_member, PrefixTrees}
+use Rattle.prd_reader.specs.Trees.{no_group, one_group, prefix, DocumentTree, document}
 
 -- whether a name is one of some, and its place among them, counted from 0
 abbrev pub has_name : List (List ℕ) → List ℕ → Bool

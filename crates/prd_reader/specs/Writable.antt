@@ -10,7 +10,16 @@ use Rattle.rif_lex.specs.Characters.{is_inside_iri}
 use Rattle.rif_lex.specs.Forms.{AreNames}
 use Rattle.rif_lex.specs.Spelling.{Gap, gap_text, Spelled, spelled_text, ends_before}
 use Rattle.prd_reader.specs.Literals.{integer_of}
-use Rattle.prd_reader.specs.Trees.{NameTree, TermTree, constant, variable, call, TermTrees, no_terms, terms, PairTrees, last_pair, pairs, Tail, equals, member_of, with_pairs, Vars, one_var, more_vars, term_of_first, FormulaTree, conj, disj, neg, some, grouped, holds, compared, atom, FormulaTrees, no_formulas, formulas, TargetTree, target_member, target_frame, target_atom, ActionTree, assert, retract, retract_slot, retract_object, modify, ActionTrees, last_action, actions, BlockTree, acts, new_object, slot_value, SuchTrees, last_such, more_such, RuleTree, for_all, for_all_such, if_then, block, GroupTree, group, MemberTrees, no_members, rule_member, group_member, PrefixTrees, no_group, one_group, prefix, DocumentTree, document}
+use Rattle.prd_reader.specs.Trees.{NameTree, TermTree, constant, variable, call, TermTrees, no_terms, terms}
+use Rattle.prd_reader.specs.Trees.{PairTrees, last_pair, pairs, Tail, equals, member_of, with_pairs, Vars, one_var}
+use Rattle.prd_reader.specs.Trees.{more_vars, term_of_first, FormulaTree, conj, disj, neg, some, grouped, holds}
+use Rattle.prd_reader.specs.Trees.{compared, atom, FormulaTrees, no_formulas, formulas, TargetTree, target_member}
+use Rattle.prd_reader.specs.Trees.{target_frame, target_atom, ActionTree, assert, retract, retract_slot}
+use Rattle.prd_reader.specs.Trees.{retract_object, modify, ActionTrees, last_action, actions, BlockTree, acts}
+use Rattle.prd_reader.specs.Trees.{new_object, slot_value, SuchTrees, last_such, more_such, RuleTree, for_all}
+use Rattle.prd_reader.specs.Trees.{for_all_such, if_then, block, GroupTree, group, MemberTrees, no_members}
+use Rattle.prd_reader.specs.Trees.{rule_member, group_member, PrefixTrees, no_group, one_group, prefix, DocumentTree}
+use Rattle.prd_reader.specs.Trees.{document}
 use Rattle.prd_reader.specs.Values.{const_value, name_value, place_of, rule_names, priority_in}
 
 -- any token that may end a term ends where the gap and the rest follow

@@ -1,6 +1,7 @@
 //! Built-ins by their names, and the numbers of their arguments.
 ghost use Rattle.std.specs.Prelude.{◌≡◌, drop, false, IfNone, IfSome, length, true};
-ghost use Rattle.prd_reader.specs.Builtins.{builtin_named, func_named, func_takes, is_in_namespace, pred_named, pred_takes};
+ghost use Rattle.prd_reader.specs.Builtins.{builtin_named, func_named, func_takes, is_in_namespace, pred_named};
+ghost use Rattle.prd_reader.specs.Builtins.{pred_takes};
 
 use crate::leaf::{Builtin, BuiltinName};
 use rif_terms::{Func, Pred};

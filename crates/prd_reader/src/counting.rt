@@ -1,6 +1,7 @@
 //! What a rule has so far.
 ghost use Rattle.std.specs.Prelude.{◌≡◌, None, Some, IfOk, MatchOption, OnOk, false, pred};
-ghost use Rattle.prd_reader.specs.Reached.{RuleGoes, RuleHasRoom, counts_seen, ends_at, rule_counted, rule_from, rule_seen};
+ghost use Rattle.prd_reader.specs.Reached.{RuleGoes, RuleHasRoom, counts_seen, ends_at, rule_counted, rule_from};
+ghost use Rattle.prd_reader.specs.Reached.{rule_seen};
 ghost use Rattle.prd_reader.specs.Values.{has_name, names_with};
 
 use crate::leaf::Leaf;
@@ -111,7 +112,8 @@ fn begin_rule(alloc: Global, rule: &mut Option<RuleReading>, depth: usize, leaf:
 
 // Whether the rule that is being read ends at a leaf, behind which so many brackets are open if it closes one.
 fn is_ended(rule: &Option<RuleReading>, behind: usize, leaf: &Leaf) -> bool
-    ensures { MatchOption rule.now (result ≡ false) (λ counts. result ≡ ends_at behind (counts_seen counts) leaf.now) }
+    ensures { MatchOption rule.now (result ≡ false) (λ counts. result
+        ≡ ends_at behind (counts_seen counts) leaf.now) }
 {
     match rule {
         None => false,

@@ -3,8 +3,9 @@
 //! | File | Has | Its words |
 //! |---|---|---|
 //! | `document.rt` | `read_doc`, `read_parts` | `specs/Documents.antt`, `specs/Limits.antt` |
-//! | `leaf.rt`, `behind.rt`, `token_leaf.rt`, `document_leaves.rt` | tokens as the grammar sees them | `specs/Leaves.antt` |
-//! | `keyword.rt`, `literal.rt`, `builtin_name.rt`, `token_text.rt`, `text_pool.rt` | words, literals, built-ins, texts | `specs/Literals.antt`, `specs/Builtins.antt` |
+//! | `leaf.rt`, `behind.rt`, `token_leaf.rt`, `document_leaves.rt` | what tokens stand for | `specs/Leaves.antt` |
+//! | `keyword.rt`, `literal.rt`, `token_text.rt`, `text_pool.rt` | words, literals, texts | `specs/Literals.antt` |
+//! | `builtin_name.rt` | built-ins by their names | `specs/Builtins.antt` |
 //! | `prefixes.rt` | the prefixes that are declared | `specs/Prefixes.antt` |
 //! | `recognizing.rt` | whether leaves are a document, or what decides | `specs/Refusals.antt`, `specs/Trees.antt` |
 //! | `want.rt`, `following.rt` | what has still to come | `specs/Following.antt` |

@@ -3,7 +3,8 @@ ghost use Rattle.std.specs.Prelude.{◌≡◌, ◌==◌, IfOk, IsUtf8, true};
 ghost use Rattle.std.specs.List.{list_all, list_any};
 ghost use Rattle.std.specs.Str.Parse.{without_leading_sign};
 ghost use Rattle.rif_lex.specs.Characters.{begins, class_at, is_between, is_inside_iri, is_name};
-ghost use Rattle.prd_reader.specs.Literals.{are_name_characters, boolean_of, escape_of, integer_of, is_integer_text, is_iri_text, is_name_text, is_type, literal_of, unescaped};
+ghost use Rattle.prd_reader.specs.Literals.{are_name_characters, boolean_of, escape_of, integer_of, is_integer_text};
+ghost use Rattle.prd_reader.specs.Literals.{is_iri_text, is_name_text, is_type, literal_of, unescaped};
 ghost use Rattle.prd_reader.specs.LeafWords.{integer_literal};
 
 use crate::leaf::Literal;

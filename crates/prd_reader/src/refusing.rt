@@ -1,7 +1,11 @@
 //! The refusals that stand at a leaf, by the leaves before it.
 ghost use Rattle.std.specs.Prelude.{◌≡◌, Some};
 ghost use Rattle.prd_reader.specs.Reached.{counts_seen, progress_seen};
-ghost use Rattle.prd_reader.specs.Refusals.{cause_at, cause_in_rule, has_wrong_arguments, is_action_too_many, is_bad_priority, is_bad_strategy, is_forward_chaining, is_name_too_many, is_pattern_too_many, is_priority, is_refused_type, is_too_deep, is_undeclared, is_unknown, is_wide, is_wrong_arity, refusal_at, unexpected};
+ghost use Rattle.prd_reader.specs.Refusals.{cause_at, cause_in_rule, has_wrong_arguments, is_action_too_many};
+ghost use Rattle.prd_reader.specs.Refusals.{is_bad_priority, is_bad_strategy, is_forward_chaining, is_name_too_many};
+ghost use Rattle.prd_reader.specs.Refusals.{is_pattern_too_many, is_priority, is_refused_type, is_too_deep};
+ghost use Rattle.prd_reader.specs.Refusals.{is_undeclared, is_unknown, is_wide, is_wrong_arity, refusal_at};
+ghost use Rattle.prd_reader.specs.Refusals.{unexpected};
 ghost use Rattle.prd_reader.specs.Progress.{rule_at};
 
 use crate::cause::Cause;

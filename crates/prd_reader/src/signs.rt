@@ -1,6 +1,7 @@
 //! What kinds of leaf progress goes by.
 ghost use Rattle.std.specs.Prelude.{◌≡◌};
-ghost use Rattle.prd_reader.specs.Progress.{begins_rule, is_action, is_close, is_do, is_sign_of_pattern, is_term, takes_term};
+ghost use Rattle.prd_reader.specs.Progress.{begins_rule, is_action, is_close, is_do, is_sign_of_pattern, is_term};
+ghost use Rattle.prd_reader.specs.Progress.{takes_term};
 
 use crate::leaf::{Keyword, Leaf};
 

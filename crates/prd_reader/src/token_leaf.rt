@@ -1,8 +1,10 @@
 //! A token as the grammar sees it.
 ghost use Rattle.std.specs.Prelude.{◌≡◌, ◌++◌, if◌then◌else◌, map, IfOk, IfSome, IsUtf8, MatchOption, None, Some};
 ghost use Rattle.rif_lex.specs.Spelling.{written};
-ghost use Rattle.prd_reader.specs.declared.leaf.Leaf.TheVariants.{Curie as CurieLeaf, Iri as IriLeaf, Word as WordLeaf};
-ghost use Rattle.prd_reader.specs.Leaves.{curie_iri, is_behind_prefix, leaf_of, literal_leaf, named_leaf, string_leaf, typed_leaf, word_leaf};
+ghost use Rattle.prd_reader.specs.declared.leaf.Leaf.TheVariants.{Curie as CurieLeaf, Iri as IriLeaf};
+ghost use Rattle.prd_reader.specs.declared.leaf.Leaf.TheVariants.{Word as WordLeaf};
+ghost use Rattle.prd_reader.specs.Leaves.{curie_iri, is_behind_prefix, leaf_of, literal_leaf, named_leaf};
+ghost use Rattle.prd_reader.specs.Leaves.{string_leaf, typed_leaf, word_leaf};
 ghost use Rattle.prd_reader.specs.LeafSteps.{front_of, literal_by, IsTokenOf};
 
 use crate::behind::Behind;

@@ -11,7 +11,7 @@ ghost use Rattle.rif_script.specs.SentLines.{Finds, HasText, line_view};
 use crate::items::read_item;
 use crate::line_fault::LineFault;
 use crate::sent_tokens::SentTokens;
-use prd_reader::Prefixes;
+use prd_reader::{Prefixes, text_of};
 use rif_lex::{Kind, Token, tokens_into};
 use rif_terms::limits::MOST_NAME_CHARACTERS;
 use rif_terms::{Fault, OutOfMemory};
@@ -160,16 +160,7 @@ fn word_text(line: &[u8], token: Token) -> Result<&[u8], LineFault>
     ensures { Gives (λ text. text.now) result (word_text (written line.now token)) }
 {
     match token.kind {
-        Kind::Word => Ok(slice_of(line, token)),
+        Kind::Word => Ok(text_of(line, token)),
         _ => Err(LineFault::Bad),
     }
-}
-
-// The token's span of the line, as far as the line has it.
-fn slice_of(line: &[u8], token: Token) -> &[u8]
-    ensures { result.now ≡ (written line.now token).text }
-{
-    let start = token.start.min(line.len());
-    let end = token.end.min(line.len()).max(start);
-    &line[start..end]
 }

@@ -1,6 +1,7 @@
 //! Actions and declarations, and lists of them.
 ghost use Rattle.std.specs.Prelude.{◌≡◌, drop, IfOk};
-ghost use Rattle.prd_reader.specs.Building.{with_rest, targeted_at, atom_at, target_at, retracted_at, retract_at, assert_at, modify_at, action_at, actions_at, slot_at, decl_at, decls_at};
+ghost use Rattle.prd_reader.specs.Building.{with_rest, targeted_at, atom_at, target_at, retracted_at, retract_at};
+ghost use Rattle.prd_reader.specs.Building.{assert_at, modify_at, action_at, actions_at, slot_at, decl_at, decls_at};
 
 use crate::building::signs::{
     ActionSign, TailSign, action_sign, begins_new, closes, const_width, constant_at, ends_decls,

@@ -1,6 +1,7 @@
 //! Groups and the document.
 ghost use Rattle.std.specs.Prelude.{◌≡◌, ◌∷◌, ◌++◌, [], pos, drop, IfOk, OnOk};
-ghost use Rattle.prd_reader.specs.Building.{Builds, behind_priority, with_rest, next_rule_at, members_at, opened_by, behind_member, behind_strategy};
+ghost use Rattle.prd_reader.specs.Building.{Builds, behind_priority, with_rest, next_rule_at, members_at, opened_by};
+ghost use Rattle.prd_reader.specs.Building.{behind_member, behind_strategy};
 
 use crate::building::rules::rule;
 use crate::building::signs::{
@@ -35,7 +36,8 @@ fn passed(
     priority: i32,
     at: usize,
 ) -> Result<usize, OutOfMemory>
-    ensures groups { OnOk result (groups.new.items ≡ opened_by sign priority (drop at leaves.now) ++ groups.old.items) }
+    ensures groups { OnOk result (groups.new.items
+        ≡ opened_by sign priority (drop at leaves.now) ++ groups.old.items) }
     ensures behind { IfOk result (λ next. drop next leaves.now ≡ behind_member sign (drop at leaves.now)) }
 {
     match sign {
@@ -67,7 +69,8 @@ fn next_rule(
     at: usize,
     left: usize,
 ) -> Result<Option<(Rule, usize)>, OutOfMemory>
-    ensures { IfOk result (λ o. with_rest leaves.now o ≡ next_rule_at priority (drop count names.now) left (drop at leaves.now)) }
+    ensures { IfOk result (λ o. with_rest leaves.now o
+        ≡ next_rule_at priority (drop count names.now) left (drop at leaves.now)) }
 {
     match names.get(count) {
         None => Ok(None),
@@ -86,7 +89,8 @@ fn members(
     from: usize,
     most: usize,
 ) -> Result<Option<(Items<Rule>, usize)>, OutOfMemory>
-    ensures { IfOk result (λ o. with_rest leaves.now o ≡ members_at most (pos 0 ∷ []) names.now most (drop from leaves.now)) }
+    ensures { IfOk result (λ o. with_rest leaves.now o
+        ≡ members_at most (pos 0 ∷ []) names.now most (drop from leaves.now)) }
 {
     let mut groups = VecDeque::new(alloc);
     groups.push_front(0)?;

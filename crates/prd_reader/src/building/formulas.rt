@@ -1,6 +1,7 @@
 //! Formulas, and lists of them.
 ghost use Rattle.std.specs.Prelude.{◌≡◌, suc, drop, IfOk};
-ghost use Rattle.prd_reader.specs.Building.{with_rest, vars_at, compared_at, compared_from, holds_at, named_at, existing, formula_at, formulas_at};
+ghost use Rattle.prd_reader.specs.Building.{with_rest, vars_at, compared_at, compared_from, holds_at, named_at};
+ghost use Rattle.prd_reader.specs.Building.{existing, formula_at, formulas_at};
 
 use crate::building::signs::{
     FormulaSign, TailSign, closes, const_width, constant_at, formula_sign, past, tail_sign,
@@ -88,7 +89,8 @@ fn exists(
     at: usize,
     left: usize,
 ) -> Result<Option<(Formula, usize)>, OutOfMemory>
-    ensures { IfOk result (λ o. with_rest leaves.now o ≡ existing (formula_at names.now left) (vars_at names.now left (drop at leaves.now))) }
+    ensures { IfOk result (λ o. with_rest leaves.now o
+        ≡ existing (formula_at names.now left) (vars_at names.now left (drop at leaves.now))) }
 {
     match vars(alloc, names, leaves, at, left)? {
         None => Ok(None),

@@ -1,6 +1,7 @@
 //! Rules.
 ghost use Rattle.std.specs.Prelude.{◌≡◌, drop, IfOk};
-ghost use Rattle.prd_reader.specs.Building.{with_rest, block_at, unconditional_at, conditional_at, body_at, such_at, level_behind, level_at, levels_at, parts_at, rule_of, rule_at};
+ghost use Rattle.prd_reader.specs.Building.{with_rest, block_at, unconditional_at, conditional_at, body_at, such_at};
+ghost use Rattle.prd_reader.specs.Building.{level_behind, level_at, levels_at, parts_at, rule_of, rule_at};
 
 use crate::building::actions::{actions, decls};
 use crate::building::formulas::formula;

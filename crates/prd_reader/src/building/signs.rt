@@ -2,7 +2,12 @@
 ghost use Rattle.std.specs.Prelude.{◌≡◌, drop, IfOk};
 ghost use Rattle.std.specs.Option.{option_copied};
 ghost use Rattle.std.specs.List.{slice_get};
-ghost use Rattle.prd_reader.specs.Signs.{first, leaf_or_end, closes, closes_square, opens, ends_vars, ends_decls, ends_such, ends_levels, begins_rule, begins_such, begins_if, begins_new, member_sign, action_sign, tail_sign, formula_sign, builtin_sign, term_or_atom, is_atom, is_constant, leaf_name, leaf_priority, strategy_width, priority_width, leaf_func, term_sign, leaf_const, const_width};
+ghost use Rattle.prd_reader.specs.Signs.{first, leaf_or_end, closes, closes_square, opens, ends_vars, ends_decls};
+ghost use Rattle.prd_reader.specs.Signs.{ends_such, ends_levels, begins_rule, begins_such, begins_if, begins_new};
+ghost use Rattle.prd_reader.specs.Signs.{member_sign, action_sign, tail_sign, formula_sign, builtin_sign};
+ghost use Rattle.prd_reader.specs.Signs.{term_or_atom, is_atom, is_constant, leaf_name, leaf_priority};
+ghost use Rattle.prd_reader.specs.Signs.{strategy_width, priority_width, leaf_func, term_sign, leaf_const};
+ghost use Rattle.prd_reader.specs.Signs.{const_width};
 ghost use Rattle.prd_reader.specs.Values.{literal_value, place_of};
 
 use crate::leaf::{Builtin, BuiltinName, Keyword, Leaf, Literal};

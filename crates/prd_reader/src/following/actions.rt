@@ -1,7 +1,11 @@
 //! Blocks and their actions.
 ghost use Rattle.std.specs.Prelude.{◌≡◌, ◌∷◌, [], Some, None, IfOk, MatchBool};
-ghost use Rattle.prd_reader.specs.declared.want.Want.TheVariants.{Actions, Arrow, Block, Close, CloseSquare, DeclVariable, OpenSquare, Retracted, RetractedAfterName, SameVariable, Target, TargetAfterName, Term};
-ghost use Rattle.prd_reader.specs.Following.{action_next, decl_next, followed, next, retracted_tail_next, same_next, target_tail_next, term_next};
+ghost use Rattle.prd_reader.specs.declared.want.Want.TheVariants.{Actions, Arrow, Block, Close, CloseSquare};
+ghost use Rattle.prd_reader.specs.declared.want.Want.TheVariants.{DeclVariable, OpenSquare, Retracted};
+ghost use Rattle.prd_reader.specs.declared.want.Want.TheVariants.{RetractedAfterName, SameVariable, Target};
+ghost use Rattle.prd_reader.specs.declared.want.Want.TheVariants.{TargetAfterName, Term};
+ghost use Rattle.prd_reader.specs.Following.{action_next, decl_next, followed, next, retracted_tail_next, same_next};
+ghost use Rattle.prd_reader.specs.Following.{target_tail_next, term_next};
 ghost use Rattle.prd_reader.specs.Recognizing.{Goes};
 
 use crate::following::putting::{put, put_pairs, put_three, put_two};
@@ -29,7 +33,8 @@ pub fn advance_action(stack: &mut VecDeque<Want>, leaf: &Leaf) -> Result<bool, O
 
 // Where an action may come, and more actions and their end behind it.
 fn advance_first_action(stack: &mut VecDeque<Want>, leaf: &Leaf) -> Result<bool, OutOfMemory>
-    ensures { IfOk result (λ can. Goes can (followed (action_next leaf.now) (Actions ∷ [])) stack.old.items stack.new.items) }
+    ensures { IfOk result
+        (λ can. Goes can (followed (action_next leaf.now) (Actions ∷ [])) stack.old.items stack.new.items) }
 {
     put(stack, Want::Actions)?;
     advance_action(stack, leaf)
@@ -67,7 +72,9 @@ pub fn advance_declared(stack: &mut VecDeque<Want>, leaf: &Leaf) -> Result<bool,
 
 // Where a slot's object may come, and behind it the slot, whose value is the variable.
 fn advance_slot(stack: &mut VecDeque<Want>, name: Text, leaf: &Leaf) -> Result<bool, OutOfMemory>
-    ensures { IfOk result (λ can. Goes can (followed (term_next leaf.now) (OpenSquare ∷ Term ∷ Arrow ∷ SameVariable name ∷ CloseSquare ∷ Close ∷ [])) stack.old.items stack.new.items) }
+    ensures { IfOk result
+        (λ can. Goes can (followed (term_next leaf.now)
+        (OpenSquare ∷ Term ∷ Arrow ∷ SameVariable name ∷ CloseSquare ∷ Close ∷ [])) stack.old.items stack.new.items) }
 {
     put_three(
         stack,

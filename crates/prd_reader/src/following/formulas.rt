@@ -33,7 +33,8 @@ pub fn advance_formula_before(
     behind: Want,
     leaf: &Leaf,
 ) -> Result<bool, OutOfMemory>
-    ensures { IfOk result (λ can. Goes can (followed (formula_next leaf.now) (behind ∷ [])) stack.old.items stack.new.items) }
+    ensures { IfOk result
+        (λ can. Goes can (followed (formula_next leaf.now) (behind ∷ [])) stack.old.items stack.new.items) }
 {
     put(stack, behind)?;
     advance_formula(stack, leaf)

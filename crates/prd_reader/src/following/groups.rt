@@ -1,6 +1,7 @@
 //! Documents, their prefixes and groups.
 ghost use Rattle.std.specs.Prelude.{◌≡◌, Some, None, IfOk};
-ghost use Rattle.prd_reader.specs.declared.want.Want.TheVariants.{Document, GroupHead, GroupPriority, Members, Prefixes};
+ghost use Rattle.prd_reader.specs.declared.want.Want.TheVariants.{Document, GroupHead, GroupPriority, Members};
+ghost use Rattle.prd_reader.specs.declared.want.Want.TheVariants.{Prefixes};
 ghost use Rattle.prd_reader.specs.Following.{next};
 ghost use Rattle.prd_reader.specs.Recognizing.{Goes};
 

@@ -32,7 +32,8 @@ pub fn advance_rule_before(
     behind: Want,
     leaf: &Leaf,
 ) -> Result<bool, OutOfMemory>
-    ensures { IfOk result (λ can. Goes can (followed (rule_next leaf.now) (behind ∷ [])) stack.old.items stack.new.items) }
+    ensures { IfOk result
+        (λ can. Goes can (followed (rule_next leaf.now) (behind ∷ [])) stack.old.items stack.new.items) }
 {
     put(stack, behind)?;
     advance_rule(stack, leaf)
@@ -62,7 +63,8 @@ pub fn advance_such(stack: &mut VecDeque<Want>, leaf: &Leaf) -> Result<bool, Out
 
 // Where a formula in brackets may come, behind the first of them.
 fn advance_grouped(stack: &mut VecDeque<Want>, leaf: &Leaf) -> Result<bool, OutOfMemory>
-    ensures { IfOk result (λ can. Goes can (followed (formula_next leaf.now) (Close ∷ SuchRest ∷ [])) stack.old.items stack.new.items) }
+    ensures { IfOk result
+        (λ can. Goes can (followed (formula_next leaf.now) (Close ∷ SuchRest ∷ [])) stack.old.items stack.new.items) }
 {
     put_two(stack, Want::Close, Want::SuchRest)?;
     advance_formula(stack, leaf)

@@ -37,7 +37,8 @@ pub fn advance_term_before(
     behind: Want,
     leaf: &Leaf,
 ) -> Result<bool, OutOfMemory>
-    ensures { IfOk result (λ can. Goes can (followed (term_next leaf.now) (behind ∷ [])) stack.old.items stack.new.items) }
+    ensures { IfOk result
+        (λ can. Goes can (followed (term_next leaf.now) (behind ∷ [])) stack.old.items stack.new.items) }
 {
     put(stack, behind)?;
     advance_term(stack, leaf)
@@ -58,7 +59,9 @@ pub fn advance_term_before_pair(
     stack: &mut VecDeque<Want>,
     leaf: &Leaf,
 ) -> Result<bool, OutOfMemory>
-    ensures { IfOk result (λ can. Goes can (followed (term_next leaf.now) (Arrow ∷ Term ∷ Pairs ∷ [])) stack.old.items stack.new.items) }
+    ensures { IfOk result
+        (λ can. Goes can (followed (term_next leaf.now)
+        (Arrow ∷ Term ∷ Pairs ∷ [])) stack.old.items stack.new.items) }
 {
     put_three(stack, Want::Arrow, Want::Term, Want::Pairs)?;
     advance_term(stack, leaf)
@@ -81,7 +84,8 @@ pub fn advance_named(
     behind_term: Want,
     leaf: &Leaf,
 ) -> Result<bool, OutOfMemory>
-    ensures { IfOk result (λ can. Goes can (named_next behind_name behind_term leaf.now) stack.old.items stack.new.items) }
+    ensures { IfOk result
+        (λ can. Goes can (named_next behind_name behind_term leaf.now) stack.old.items stack.new.items) }
 {
     match leaf {
         Leaf::Iri(_) | Leaf::Curie(_) | Leaf::Local(_) => put(stack, behind_name),

@@ -1,14 +1,18 @@
 //! Blocks of rules as text, in the form that `term.rt` has.
 ghost use Rattle.std.specs.Prelude.{◌≡◌, ◌++◌, ◌∷◌, List, ℕ, OnOk, map};
 ghost use Rattle.rif_lex.specs.Spelling.{Gap, Spelled, joined, space, gap_text, spelled_text};
-ghost use Rattle.prd_reader.specs.Canonical.{listed, spaced, closing, target_spelling, action_spelling, decl_spelling, block_spelling, slot_spelling, new_spelling, verb_text, acted_spelling, term_spelling};
+ghost use Rattle.prd_reader.specs.Canonical.{listed, spaced, closing, target_spelling, action_spelling};
+ghost use Rattle.prd_reader.specs.Canonical.{decl_spelling, block_spelling, slot_spelling, new_spelling, verb_text};
+ghost use Rattle.prd_reader.specs.Canonical.{acted_spelling, term_spelling};
 
 use crate::writing::atomic::{push_atom, push_frame, push_member};
 use crate::writing::term::{push_bytes, push_space, push_term, push_var};
 use rif_terms::{Action, Decl, OutOfMemory, Rule, Target, Term, Text};
 
 fn push_target(out: &mut Vec<u8>, names: &[Text], target: &Target) -> Result<(), OutOfMemory>
-    ensures { (gap : Gap) (rest : List Spelled) → OnOk result (out.new.items ++ (gap_text gap ++ spelled_text rest) ≡ out.old.items ++ spelled_text (target_spelling names.now target.now gap rest)) }
+    ensures { (gap : Gap) (rest : List Spelled) →
+        OnOk result (out.new.items ++ (gap_text gap ++ spelled_text rest)
+        ≡ out.old.items ++ spelled_text (target_spelling names.now target.now gap rest)) }
 {
     match target {
         Target::Atom(predicate, arguments) => {
@@ -22,7 +26,9 @@ fn push_target(out: &mut Vec<u8>, names: &[Text], target: &Target) -> Result<(),
 
 // Appends what stands in an action's brackets.
 fn push_acted(out: &mut Vec<u8>, names: &[Text], action: &Action) -> Result<(), OutOfMemory>
-    ensures { (rest : List Spelled) → OnOk result (out.new.items ++ spelled_text rest ≡ out.old.items ++ spelled_text (acted_spelling names.now action.now rest)) }
+    ensures { (rest : List Spelled) →
+        OnOk result (out.new.items ++ spelled_text rest
+        ≡ out.old.items ++ spelled_text (acted_spelling names.now action.now rest)) }
 {
     match action {
         Action::Assert(target) => push_target(out, names, target)?,
@@ -41,7 +47,10 @@ fn push_two(
     object: &Term,
     slot: &Term,
 ) -> Result<(), OutOfMemory>
-    ensures { (rest : List Spelled) → OnOk result (out.new.items ++ spelled_text rest ≡ out.old.items ++ spelled_text (term_spelling names.now object.now space (term_spelling names.now slot.now joined rest))) }
+    ensures { (rest : List Spelled) →
+        OnOk result (out.new.items ++ spelled_text rest
+        ≡ out.old.items ++ spelled_text
+        (term_spelling names.now object.now space (term_spelling names.now slot.now joined rest))) }
 {
     push_term(out, names, object)?;
     push_bytes(out, b" ")?;
@@ -51,7 +60,8 @@ fn push_two(
 
 // Appends an action's word.
 fn push_verb(out: &mut Vec<u8>, action: &Action) -> Result<(), OutOfMemory>
-    ensures { (rest : List ℕ) → OnOk result (out.new.items ++ rest ≡ out.old.items ++ (verb_text action.now ++ rest)) }
+    ensures { (rest : List ℕ) →
+        OnOk result (out.new.items ++ rest ≡ out.old.items ++ (verb_text action.now ++ rest)) }
 {
     match action {
         Action::Assert(_) => out.extend_from_slice(b"Assert")?,
@@ -64,7 +74,9 @@ fn push_verb(out: &mut Vec<u8>, action: &Action) -> Result<(), OutOfMemory>
 }
 
 fn push_action(out: &mut Vec<u8>, names: &[Text], action: &Action) -> Result<(), OutOfMemory>
-    ensures { (gap : Gap) (rest : List Spelled) → OnOk result (out.new.items ++ (gap_text gap ++ spelled_text rest) ≡ out.old.items ++ spelled_text (action_spelling names.now action.now gap rest)) }
+    ensures { (gap : Gap) (rest : List Spelled) →
+        OnOk result (out.new.items ++ (gap_text gap ++ spelled_text rest)
+        ≡ out.old.items ++ spelled_text (action_spelling names.now action.now gap rest)) }
 {
     push_verb(out, action)?;
     push_bytes(out, b"(")?;
@@ -75,7 +87,9 @@ fn push_action(out: &mut Vec<u8>, names: &[Text], action: &Action) -> Result<(),
 
 // Appends the actions with one space between two.
 fn push_actions(out: &mut Vec<u8>, names: &[Text], actions: &[Action]) -> Result<(), OutOfMemory>
-    ensures { (rest : List Spelled) → OnOk result (out.new.items ++ spelled_text rest ≡ out.old.items ++ spelled_text (listed (map (action_spelling names.now) actions.now) rest)) }
+    ensures { (rest : List Spelled) →
+        OnOk result (out.new.items ++ spelled_text rest
+        ≡ out.old.items ++ spelled_text (listed (map (action_spelling names.now) actions.now) rest)) }
 {
     let mut is_first = true;
     for action in actions {
@@ -94,7 +108,9 @@ fn push_slot(
     object: &Term,
     slot: &Term,
 ) -> Result<(), OutOfMemory>
-    ensures { (gap : Gap) (rest : List Spelled) → OnOk result (out.new.items ++ (gap_text gap ++ spelled_text rest) ≡ out.old.items ++ spelled_text (slot_spelling names.now var object.now slot.now gap rest)) }
+    ensures { (gap : Gap) (rest : List Spelled) →
+        OnOk result (out.new.items ++ (gap_text gap ++ spelled_text rest)
+        ≡ out.old.items ++ spelled_text (slot_spelling names.now var object.now slot.now gap rest)) }
 {
     push_bytes(out, b"(")?;
     push_var(out, names, var)?;
@@ -110,7 +126,9 @@ fn push_slot(
 
 // Appends a declaration of an object that is made anew.
 fn push_new(out: &mut Vec<u8>, names: &[Text], var: u32) -> Result<(), OutOfMemory>
-    ensures { (gap : Gap) (rest : List Spelled) → OnOk result (out.new.items ++ (gap_text gap ++ spelled_text rest) ≡ out.old.items ++ spelled_text (new_spelling names.now var gap rest)) }
+    ensures { (gap : Gap) (rest : List Spelled) →
+        OnOk result (out.new.items ++ (gap_text gap ++ spelled_text rest)
+        ≡ out.old.items ++ spelled_text (new_spelling names.now var gap rest)) }
 {
     push_bytes(out, b"(")?;
     push_var(out, names, var)?;
@@ -119,7 +137,9 @@ fn push_new(out: &mut Vec<u8>, names: &[Text], var: u32) -> Result<(), OutOfMemo
 }
 
 fn push_decl(out: &mut Vec<u8>, names: &[Text], decl: &Decl) -> Result<(), OutOfMemory>
-    ensures { (gap : Gap) (rest : List Spelled) → OnOk result (out.new.items ++ (gap_text gap ++ spelled_text rest) ≡ out.old.items ++ spelled_text (decl_spelling names.now decl.now gap rest)) }
+    ensures { (gap : Gap) (rest : List Spelled) →
+        OnOk result (out.new.items ++ (gap_text gap ++ spelled_text rest)
+        ≡ out.old.items ++ spelled_text (decl_spelling names.now decl.now gap rest)) }
 {
     match decl {
         Decl::Slot { var, object, slot } => push_slot(out, names, *var, object, slot)?,
@@ -130,7 +150,9 @@ fn push_decl(out: &mut Vec<u8>, names: &[Text], decl: &Decl) -> Result<(), OutOf
 
 // Appends the declarations, each with a space behind it.
 fn push_decls(out: &mut Vec<u8>, names: &[Text], decls: &[Decl]) -> Result<(), OutOfMemory>
-    ensures { (rest : List Spelled) → OnOk result (out.new.items ++ spelled_text rest ≡ out.old.items ++ spelled_text (spaced (map (decl_spelling names.now) decls.now) rest)) }
+    ensures { (rest : List Spelled) →
+        OnOk result (out.new.items ++ spelled_text rest
+        ≡ out.old.items ++ spelled_text (spaced (map (decl_spelling names.now) decls.now) rest)) }
 {
     for decl in decls {
         push_decl(out, names, decl)?;
@@ -140,7 +162,9 @@ fn push_decls(out: &mut Vec<u8>, names: &[Text], decls: &[Decl]) -> Result<(), O
 }
 
 pub fn push_block(out: &mut Vec<u8>, rule: &Rule) -> Result<(), OutOfMemory>
-    ensures { (rest : List Spelled) → OnOk result (out.new.items ++ spelled_text rest ≡ out.old.items ++ spelled_text (block_spelling rule.now rest)) }
+    ensures { (rest : List Spelled) →
+        OnOk result (out.new.items ++ spelled_text rest
+        ≡ out.old.items ++ spelled_text (block_spelling rule.now rest)) }
 {
     push_bytes(out, b"Do(")?;
     push_decls(out, rule.names.as_slice(), rule.decls.as_slice())?;

@@ -1,7 +1,9 @@
 //! Formulas as text, in the form that `term.rt` has.
 ghost use Rattle.std.specs.Prelude.{◌≡◌, ◌++◌, ◌∷◌, List, ℕ, OnOk, map, codes};
 ghost use Rattle.rif_lex.specs.Spelling.{Gap, Spelled, joined, space, gap_text, spelled_text};
-ghost use Rattle.prd_reader.specs.Canonical.{listed, spaced, word, opening, closing, pred_text, var_spelling, term_spelling, external_spelling, bracket_spelling, not_spelling, exists_spelling, formula_spelling};
+ghost use Rattle.prd_reader.specs.Canonical.{listed, spaced, word, opening, closing, pred_text, var_spelling};
+ghost use Rattle.prd_reader.specs.Canonical.{term_spelling, external_spelling, bracket_spelling, not_spelling};
+ghost use Rattle.prd_reader.specs.Canonical.{exists_spelling, formula_spelling};
 
 use crate::writing::atomic::{push_atom, push_equal, push_frame, push_member};
 use crate::writing::term::{push_bytes, push_space, push_terms, push_var};
@@ -9,7 +11,9 @@ use rif_terms::{Formula, OutOfMemory, Pred, Term, Text};
 
 // Appends the variables, each with a space behind it.
 pub fn push_vars(out: &mut Vec<u8>, names: &[Text], vars: &[u32]) -> Result<(), OutOfMemory>
-    ensures { (rest : List Spelled) → OnOk result (out.new.items ++ spelled_text rest ≡ out.old.items ++ spelled_text (spaced (map (var_spelling names.now) vars.now) rest)) }
+    ensures { (rest : List Spelled) →
+        OnOk result (out.new.items ++ spelled_text rest
+        ≡ out.old.items ++ spelled_text (spaced (map (var_spelling names.now) vars.now) rest)) }
 {
     for var in vars {
         push_var(out, names, *var)?;
@@ -50,7 +54,10 @@ fn push_holds(
     pred: Pred,
     arguments: &[Term],
 ) -> Result<(), OutOfMemory>
-    ensures { (gap : Gap) (rest : List Spelled) → OnOk result (out.new.items ++ (gap_text gap ++ spelled_text rest) ≡ out.old.items ++ spelled_text (external_spelling (pred_text pred) (map (term_spelling names.now) arguments.now) gap rest)) }
+    ensures { (gap : Gap) (rest : List Spelled) →
+        OnOk result (out.new.items ++ (gap_text gap ++ spelled_text rest)
+        ≡ out.old.items ++ spelled_text
+        (external_spelling (pred_text pred) (map (term_spelling names.now) arguments.now) gap rest)) }
 {
     push_bytes(out, b"External(")?;
     push_pred(out, pred)?;
@@ -62,7 +69,9 @@ fn push_holds(
 
 #[cycle(formula_writing)]
 pub fn push_formula(out: &mut Vec<u8>, names: &[Text], formula: &Formula) -> Result<(), OutOfMemory>
-    ensures { (gap : Gap) (rest : List Spelled) → OnOk result (out.new.items ++ (gap_text gap ++ spelled_text rest) ≡ out.old.items ++ spelled_text (formula_spelling names.now formula.now gap rest)) }
+    ensures { (gap : Gap) (rest : List Spelled) →
+        OnOk result (out.new.items ++ (gap_text gap ++ spelled_text rest)
+        ≡ out.old.items ++ spelled_text (formula_spelling names.now formula.now gap rest)) }
 {
     match formula {
         Formula::And(members) => push_members(out, names, b"And", members.as_slice())?,
@@ -88,7 +97,10 @@ fn push_members(
     name: &[u8],
     members: &[Formula],
 ) -> Result<(), OutOfMemory>
-    ensures { (gap : Gap) (rest : List Spelled) → OnOk result (out.new.items ++ (gap_text gap ++ spelled_text rest) ≡ out.old.items ++ spelled_text (bracket_spelling name.now (map (formula_spelling names.now) members.now) gap rest)) }
+    ensures { (gap : Gap) (rest : List Spelled) →
+        OnOk result (out.new.items ++ (gap_text gap ++ spelled_text rest)
+        ≡ out.old.items ++ spelled_text
+        (bracket_spelling name.now (map (formula_spelling names.now) members.now) gap rest)) }
 {
     push_bytes(out, name)?;
     push_bytes(out, b"(")?;
@@ -99,7 +111,9 @@ fn push_members(
 
 #[cycle(formula_writing)]
 fn push_not(out: &mut Vec<u8>, names: &[Text], inner: &Formula) -> Result<(), OutOfMemory>
-    ensures { (gap : Gap) (rest : List Spelled) → OnOk result (out.new.items ++ (gap_text gap ++ spelled_text rest) ≡ out.old.items ++ spelled_text (not_spelling (formula_spelling names.now inner.now) gap rest)) }
+    ensures { (gap : Gap) (rest : List Spelled) →
+        OnOk result (out.new.items ++ (gap_text gap ++ spelled_text rest)
+        ≡ out.old.items ++ spelled_text (not_spelling (formula_spelling names.now inner.now) gap rest)) }
 {
     push_bytes(out, b"Not(")?;
     push_formula(out, names, inner)?;
@@ -114,7 +128,10 @@ fn push_exists(
     vars: &[u32],
     inner: &Formula,
 ) -> Result<(), OutOfMemory>
-    ensures { (gap : Gap) (rest : List Spelled) → OnOk result (out.new.items ++ (gap_text gap ++ spelled_text rest) ≡ out.old.items ++ spelled_text (exists_spelling (map (var_spelling names.now) vars.now) (formula_spelling names.now inner.now) gap rest)) }
+    ensures { (gap : Gap) (rest : List Spelled) →
+        OnOk result (out.new.items ++ (gap_text gap ++ spelled_text rest)
+        ≡ out.old.items ++ spelled_text
+        (exists_spelling (map (var_spelling names.now) vars.now) (formula_spelling names.now inner.now) gap rest)) }
 {
     push_bytes(out, b"Exists ")?;
     push_vars(out, names, vars)?;
@@ -127,7 +144,9 @@ fn push_exists(
 // Appends the formulas with one space between two.
 #[cycle(formula_writing)]
 fn push_formulas(out: &mut Vec<u8>, names: &[Text], formulas: &[Formula]) -> Result<(), OutOfMemory>
-    ensures { (rest : List Spelled) → OnOk result (out.new.items ++ spelled_text rest ≡ out.old.items ++ spelled_text (listed (map (formula_spelling names.now) formulas.now) rest)) }
+    ensures { (rest : List Spelled) →
+        OnOk result (out.new.items ++ spelled_text rest
+        ≡ out.old.items ++ spelled_text (listed (map (formula_spelling names.now) formulas.now) rest)) }
 {
     let mut is_first = true;
     for formula in formulas {
@@ -144,7 +163,9 @@ pub fn push_such_that(
     names: &[Text],
     formulas: &[Formula],
 ) -> Result<(), OutOfMemory>
-    ensures { (rest : List Spelled) → OnOk result (out.new.items ++ spelled_text rest ≡ out.old.items ++ spelled_text (spaced (map (formula_spelling names.now) formulas.now) rest)) }
+    ensures { (rest : List Spelled) →
+        OnOk result (out.new.items ++ spelled_text rest
+        ≡ out.old.items ++ spelled_text (spaced (map (formula_spelling names.now) formulas.now) rest)) }
 {
     for formula in formulas {
         push_formula(out, names, formula)?;

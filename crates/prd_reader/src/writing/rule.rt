@@ -2,7 +2,10 @@
 ghost use Rattle.std.specs.Prelude.{◌≡◌, ◌++◌, ◌∷◌, [], List, ℕ, OnOk, OnErr};
 ghost use Rattle.std.specs.Fmt.{signed_decimal};
 ghost use Rattle.rif_lex.specs.Spelling.{Spelled, joined, spelled_text};
-ghost use Rattle.prd_reader.specs.Canonical.{condition_spelling, block_spelling, such_spelling, level_spelling, levels_spelling, rule_spelling, group_spelling, groups_spelling, rules_spelling, canonical_text, closing, if_spelling, some_such_spelling, some_rules_spelling};
+ghost use Rattle.prd_reader.specs.Canonical.{condition_spelling, block_spelling, such_spelling, level_spelling};
+ghost use Rattle.prd_reader.specs.Canonical.{levels_spelling, rule_spelling, group_spelling, groups_spelling};
+ghost use Rattle.prd_reader.specs.Canonical.{rules_spelling, canonical_text, closing, if_spelling};
+ghost use Rattle.prd_reader.specs.Canonical.{some_such_spelling, some_rules_spelling};
 
 use crate::writing::action::push_block;
 use crate::writing::formula::{push_formula, push_such_that, push_vars};
@@ -47,7 +50,9 @@ fn push_some_rules(out: &mut Vec<u8>, rules: &[Rule]) -> Result<(), OutOfMemory>
 
 // Appends a line for each rule.
 fn push_groups(out: &mut Vec<u8>, rules: &[Rule]) -> Result<(), OutOfMemory>
-    ensures { (rest : List Spelled) → OnOk result (out.new.items ++ spelled_text rest ≡ out.old.items ++ spelled_text (groups_spelling rules.now rest)) }
+    ensures { (rest : List Spelled) →
+        OnOk result (out.new.items ++ spelled_text rest
+        ≡ out.old.items ++ spelled_text (groups_spelling rules.now rest)) }
 {
     for rule in rules {
         push_group(out, rule)?;
@@ -57,7 +62,9 @@ fn push_groups(out: &mut Vec<u8>, rules: &[Rule]) -> Result<(), OutOfMemory>
 
 // Appends a rule in a group of its priority.
 fn push_group(out: &mut Vec<u8>, rule: &Rule) -> Result<(), OutOfMemory>
-    ensures { (rest : List Spelled) → OnOk result (out.new.items ++ spelled_text rest ≡ out.old.items ++ spelled_text (group_spelling rule.now rest)) }
+    ensures { (rest : List Spelled) →
+        OnOk result (out.new.items ++ spelled_text rest
+        ≡ out.old.items ++ spelled_text (group_spelling rule.now rest)) }
 {
     push_bytes(out, b"Group ")?;
     push_priority(out, rule.priority)?;
@@ -68,7 +75,8 @@ fn push_group(out: &mut Vec<u8>, rule: &Rule) -> Result<(), OutOfMemory>
 }
 
 fn push_priority(out: &mut Vec<u8>, priority: i32) -> Result<(), OutOfMemory>
-    ensures { (rest : List ℕ) → OnOk result (out.new.items ++ rest ≡ out.old.items ++ (signed_decimal priority ++ rest)) }
+    ensures { (rest : List ℕ) →
+        OnOk result (out.new.items ++ rest ≡ out.old.items ++ (signed_decimal priority ++ rest)) }
 {
     let mut number = Buffer::new();
     out.extend_from_slice(number.format(priority).as_bytes())?;
@@ -78,7 +86,9 @@ fn push_priority(out: &mut Vec<u8>, priority: i32) -> Result<(), OutOfMemory>
 // Appends the levels round the rule's condition and block.
 #[cycle(levels_writing)]
 fn push_levels(out: &mut Vec<u8>, rule: &Rule, levels: &[Level]) -> Result<(), OutOfMemory>
-    ensures { (rest : List Spelled) → OnOk result (out.new.items ++ spelled_text rest ≡ out.old.items ++ spelled_text (levels_spelling rule.now levels.now rest)) }
+    ensures { (rest : List Spelled) →
+        OnOk result (out.new.items ++ spelled_text rest
+        ≡ out.old.items ++ spelled_text (levels_spelling rule.now levels.now rest)) }
 {
     match levels.split_first() {
         None => push_inner(out, rule)?,
@@ -95,7 +105,10 @@ fn push_around(
     level: &Level,
     more: &[Level],
 ) -> Result<(), OutOfMemory>
-    ensures { (rest : List Spelled) → OnOk result (out.new.items ++ spelled_text rest ≡ out.old.items ++ spelled_text (level_spelling rule.now.names level.now (levels_spelling rule.now more.now (closing joined ∷ rest)))) }
+    ensures { (rest : List Spelled) →
+        OnOk result (out.new.items ++ spelled_text rest
+        ≡ out.old.items ++ spelled_text
+        (level_spelling rule.now.names level.now (levels_spelling rule.now more.now (closing joined ∷ rest)))) }
 {
     push_level(out, rule.names.as_slice(), level)?;
     push_levels(out, rule, more)?;
@@ -105,7 +118,9 @@ fn push_around(
 
 // Appends a `Forall` up to the bracket of its inner rule.
 fn push_level(out: &mut Vec<u8>, names: &[Text], level: &Level) -> Result<(), OutOfMemory>
-    ensures { (rest : List Spelled) → OnOk result (out.new.items ++ spelled_text rest ≡ out.old.items ++ spelled_text (level_spelling names.now level.now rest)) }
+    ensures { (rest : List Spelled) →
+        OnOk result (out.new.items ++ spelled_text rest
+        ≡ out.old.items ++ spelled_text (level_spelling names.now level.now rest)) }
 {
     push_bytes(out, b"Forall ")?;
     push_vars(out, names, level.vars.as_slice())?;
@@ -115,7 +130,9 @@ fn push_level(out: &mut Vec<u8>, names: &[Text], level: &Level) -> Result<(), Ou
 }
 
 fn push_such(out: &mut Vec<u8>, names: &[Text], formulas: &[Formula]) -> Result<(), OutOfMemory>
-    ensures { (rest : List Spelled) → OnOk result (out.new.items ++ spelled_text rest ≡ out.old.items ++ spelled_text (such_spelling names.now formulas.now rest)) }
+    ensures { (rest : List Spelled) →
+        OnOk result (out.new.items ++ spelled_text rest
+        ≡ out.old.items ++ spelled_text (such_spelling names.now formulas.now rest)) }
 {
     if !formulas.is_empty() {
         push_some_such(out, names, formulas)?;
@@ -128,7 +145,9 @@ fn push_some_such(
     names: &[Text],
     formulas: &[Formula],
 ) -> Result<(), OutOfMemory>
-    ensures { (rest : List Spelled) → OnOk result (out.new.items ++ spelled_text rest ≡ out.old.items ++ spelled_text (some_such_spelling names.now formulas.now rest)) }
+    ensures { (rest : List Spelled) →
+        OnOk result (out.new.items ++ spelled_text rest
+        ≡ out.old.items ++ spelled_text (some_such_spelling names.now formulas.now rest)) }
 {
     push_bytes(out, b"such that ")?;
     push_such_that(out, names, formulas)?;
@@ -137,7 +156,9 @@ fn push_some_such(
 
 // Appends the rule's condition and block.
 fn push_inner(out: &mut Vec<u8>, rule: &Rule) -> Result<(), OutOfMemory>
-    ensures { (rest : List Spelled) → OnOk result (out.new.items ++ spelled_text rest ≡ out.old.items ++ spelled_text (levels_spelling rule.now [] rest)) }
+    ensures { (rest : List Spelled) →
+        OnOk result (out.new.items ++ spelled_text rest
+        ≡ out.old.items ++ spelled_text (levels_spelling rule.now [] rest)) }
 {
     push_condition(out, rule.names.as_slice(), &rule.condition)?;
     push_block(out, rule)?;
@@ -149,7 +170,9 @@ fn push_condition(
     names: &[Text],
     condition: &Option<Formula>,
 ) -> Result<(), OutOfMemory>
-    ensures { (rest : List Spelled) → OnOk result (out.new.items ++ spelled_text rest ≡ out.old.items ++ spelled_text (condition_spelling names.now condition.now rest)) }
+    ensures { (rest : List Spelled) →
+        OnOk result (out.new.items ++ spelled_text rest
+        ≡ out.old.items ++ spelled_text (condition_spelling names.now condition.now rest)) }
 {
     match condition {
         Some(formula) => push_if(out, names, formula)?,
@@ -159,7 +182,9 @@ fn push_condition(
 }
 
 fn push_if(out: &mut Vec<u8>, names: &[Text], formula: &Formula) -> Result<(), OutOfMemory>
-    ensures { (rest : List Spelled) → OnOk result (out.new.items ++ spelled_text rest ≡ out.old.items ++ spelled_text (if_spelling names.now formula.now rest)) }
+    ensures { (rest : List Spelled) →
+        OnOk result (out.new.items ++ spelled_text rest
+        ≡ out.old.items ++ spelled_text (if_spelling names.now formula.now rest)) }
 {
     push_bytes(out, b"If ")?;
     push_formula(out, names, formula)?;

@@ -3,7 +3,9 @@
 ghost use Rattle.std.specs.Prelude.{◌≡◌, ◌++◌, List, ℕ, OnOk, map, get_or, codes, []};
 ghost use Rattle.rif_lex.specs.Spelling.{Gap, Spelled, gap_text, spelled_text};
 ghost use Rattle.prd_reader.specs.Writing.{space_before};
-ghost use Rattle.prd_reader.specs.Canonical.{listed, closing, const_spelling, var_spelling, func_text, pred_text, external_spelling, term_spelling, pair_spelling, frame_spelling, member_spelling, equal_spelling, atom_spelling};
+ghost use Rattle.prd_reader.specs.Canonical.{listed, closing, const_spelling, var_spelling, func_text, pred_text};
+ghost use Rattle.prd_reader.specs.Canonical.{external_spelling, term_spelling, pair_spelling, frame_spelling};
+ghost use Rattle.prd_reader.specs.Canonical.{member_spelling, equal_spelling, atom_spelling};
 
 use rif_terms::{Const, Func, OutOfMemory, Pred, Term, Text, push_const};
 
@@ -36,7 +38,9 @@ pub fn push_name(out: &mut Vec<u8>, names: &[Text], var: u32) -> Result<(), OutO
 }
 
 pub fn push_var(out: &mut Vec<u8>, names: &[Text], var: u32) -> Result<(), OutOfMemory>
-    ensures { (gap : Gap) (rest : List Spelled) → OnOk result (out.new.items ++ (gap_text gap ++ spelled_text rest) ≡ out.old.items ++ spelled_text (var_spelling names.now var gap rest)) }
+    ensures { (gap : Gap) (rest : List Spelled) →
+        OnOk result (out.new.items ++ (gap_text gap ++ spelled_text rest)
+        ≡ out.old.items ++ spelled_text (var_spelling names.now var gap rest)) }
 {
     out.push(b'?')?;
     push_name(out, names, var)
@@ -60,7 +64,9 @@ fn push_func(out: &mut Vec<u8>, func: Func) -> Result<(), OutOfMemory>
 
 #[cycle(term_writing)]
 pub fn push_term(out: &mut Vec<u8>, names: &[Text], term: &Term) -> Result<(), OutOfMemory>
-    ensures { (gap : Gap) (rest : List Spelled) → OnOk result (out.new.items ++ (gap_text gap ++ spelled_text rest) ≡ out.old.items ++ spelled_text (term_spelling names.now term.now gap rest)) }
+    ensures { (gap : Gap) (rest : List Spelled) →
+        OnOk result (out.new.items ++ (gap_text gap ++ spelled_text rest)
+        ≡ out.old.items ++ spelled_text (term_spelling names.now term.now gap rest)) }
 {
     match term {
         Term::Const(constant) => push_const(out, constant),
@@ -79,7 +85,10 @@ fn push_call(
     func: Func,
     arguments: &[Term],
 ) -> Result<(), OutOfMemory>
-    ensures { (gap : Gap) (rest : List Spelled) → OnOk result (out.new.items ++ (gap_text gap ++ spelled_text rest) ≡ out.old.items ++ spelled_text (external_spelling (func_text func) (map (term_spelling names.now) arguments.now) gap rest)) }
+    ensures { (gap : Gap) (rest : List Spelled) →
+        OnOk result (out.new.items ++ (gap_text gap ++ spelled_text rest)
+        ≡ out.old.items ++ spelled_text
+        (external_spelling (func_text func) (map (term_spelling names.now) arguments.now) gap rest)) }
 {
     push_bytes(out, b"External(")?;
     push_func(out, func)?;
@@ -92,7 +101,9 @@ fn push_call(
 // Appends the terms with one space between two.
 #[cycle(term_writing)]
 pub fn push_terms(out: &mut Vec<u8>, names: &[Text], terms: &[Term]) -> Result<(), OutOfMemory>
-    ensures { (rest : List Spelled) → OnOk result (out.new.items ++ spelled_text rest ≡ out.old.items ++ spelled_text (listed (map (term_spelling names.now) terms.now) rest)) }
+    ensures { (rest : List Spelled) →
+        OnOk result (out.new.items ++ spelled_text rest
+        ≡ out.old.items ++ spelled_text (listed (map (term_spelling names.now) terms.now) rest)) }
 {
     let mut is_first = true;
     for term in terms {

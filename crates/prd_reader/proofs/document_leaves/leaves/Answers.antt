@@ -31,7 +31,8 @@ loop-at-preserved c =
     declared_given prefixes next c.as_slice-in-loop-at.result.now found l c.in_ok-declare_by.ensures
     c.as_slice-in-loop-at.ensures.value in
     let pushed = c.in_ok-push.ensures.items in
-    let more = leaves_next found (leaves_of bytes ts) prefixes next l bytes ts at d c.loop-at-test.true c.loop-at.invariant.so_far is declared in
+    let more = leaves_next found
+    (leaves_of bytes ts) prefixes next l bytes ts at d c.loop-at-test.true c.loop-at.invariant.so_far is declared in
     record {
       so_far = ap (λ (ls : List Leaf). ls ++ leaves_from next (front_from [] ls) (map (written bytes) (drop
           (at + 1) ts))) pushed ∙ more;

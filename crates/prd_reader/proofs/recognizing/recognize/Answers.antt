@@ -4,4 +4,5 @@ use Rattle.prd_reader.proofs.RefusingLemmas.{leads_to}
 use Rattle.prd_reader.proofs.recognizing.recognize.Goals as goal
 
 pub returns : goal.returns
-returns c = IfOk-weaker c.recognize_from.result _ _ (λ outcome followed. leads_to machine_laws c.args.leaves.now outcome followed) c.recognize_from.ensures
+returns c = IfOk-weaker c.recognize_from.result _ _
+    (λ outcome followed. leads_to machine_laws c.args.leaves.now outcome followed) c.recognize_from.ensures

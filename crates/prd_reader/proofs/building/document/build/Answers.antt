@@ -6,9 +6,14 @@ use Rattle.prd_reader.proofs.building.document.build.Goals as goal
 pub returns-in-None : goal.returns-in-None
 returns-in-None c =
     builds c.args.leaves.now c.args.names.now None (ap doc_of (ap (with_rest c.args.leaves.now) (sym c.in-None.is)
-    ∙ (c.in_ok-members.ensures ∙ ap (members_at (length c.args.leaves.now) (pos 0 ∷ []) c.args.names.now (length c.args.leaves.now)) c.past.ensures)))
+    ∙ (c.in_ok-members.ensures
+    ∙ ap (members_at (length c.args.leaves.now) (pos 0 ∷ []) c.args.names.now
+    (length c.args.leaves.now)) c.past.ensures)))
 
 pub returns-in-Some : goal.returns-in-Some
 returns-in-Some c =
-    builds c.args.leaves.now c.args.names.now (Some (record { rules = c.in-Some.rules })) (ap doc_of (ap (with_rest c.args.leaves.now) (sym c.in-Some.is)
-    ∙ (c.in_ok-members.ensures ∙ ap (members_at (length c.args.leaves.now) (pos 0 ∷ []) c.args.names.now (length c.args.leaves.now)) c.past.ensures)))
+    builds c.args.leaves.now c.args.names.now (Some (record { rules = c.in-Some.rules }))
+    (ap doc_of (ap (with_rest c.args.leaves.now) (sym c.in-Some.is)
+    ∙ (c.in_ok-members.ensures
+    ∙ ap (members_at (length c.args.leaves.now) (pos 0 ∷ []) c.args.names.now
+    (length c.args.leaves.now)) c.past.ensures)))

@@ -11,18 +11,28 @@ use Rattle.prd_reader.proofs.building.formulas.+formula.Goals as goal
 pub formula_within-returns-in-Some : goal.formula_within-returns-in-Some
 formula_within-returns-in-Some t c =
     let sign : formula_sign (drop c.args.at c.args.leaves.now) ≡ AndSign = sym c.formula_sign.ensures ∙ c.in-And.is in
-    let given : Some (c.in-Some.all, drop c.in-Some.end c.args.leaves.now) ≡ formulas_at c.args.names.now c.args.left (drop 2 (drop c.args.at c.args.leaves.now)) =
-    ap (with_rest c.args.leaves.now) (sym c.in-Some.is) ∙ (c.in_ok-formulas-in-And.ensures ∙ ap (formulas_at c.args.names.now c.args.left) c.past.ensures) in
-    rw (sign, formula_at) (rw c.past-in-Some.ensures (after_is {Y = Formula} (formulas_at c.args.names.now c.args.left (drop 2 (drop c.args.at c.args.leaves.now)))
-    c.in-Some.all (drop c.in-Some.end c.args.leaves.now) (λ (fs : List Formula) (rest : List Leaf). Some (And fs, drop 1 rest)) given))
+    let given : Some (c.in-Some.all, drop c.in-Some.end c.args.leaves.now)
+    ≡ formulas_at c.args.names.now c.args.left (drop 2 (drop c.args.at c.args.leaves.now)) =
+    ap (with_rest c.args.leaves.now) (sym c.in-Some.is)
+    ∙ (c.in_ok-formulas-in-And.ensures ∙ ap (formulas_at c.args.names.now c.args.left) c.past.ensures) in
+    rw (sign, formula_at)
+    (rw c.past-in-Some.ensures
+    (after_is {Y = Formula} (formulas_at c.args.names.now c.args.left (drop 2 (drop c.args.at c.args.leaves.now)))
+    c.in-Some.all (drop c.in-Some.end c.args.leaves.now)
+    (λ (fs : List Formula) (rest : List Leaf). Some (And fs, drop 1 rest)) given))
 
 pub formula_within-returns-in-Some-2 : goal.formula_within-returns-in-Some-2
 formula_within-returns-in-Some-2 t c =
     let sign : formula_sign (drop c.args.at c.args.leaves.now) ≡ OrSign = sym c.formula_sign.ensures ∙ c.in-Or.is in
-    let given : Some (c.in-Some-2.all, drop c.in-Some-2.end c.args.leaves.now) ≡ formulas_at c.args.names.now c.args.left (drop 2 (drop c.args.at c.args.leaves.now)) =
-    ap (with_rest c.args.leaves.now) (sym c.in-Some-2.is) ∙ (c.in_ok-formulas-in-Or.ensures ∙ ap (formulas_at c.args.names.now c.args.left) c.past-in-Or.ensures) in
-    rw (sign, formula_at) (rw c.past-in-Some-2.ensures (after_is {Y = Formula} (formulas_at c.args.names.now c.args.left (drop 2 (drop c.args.at c.args.leaves.now)))
-    c.in-Some-2.all (drop c.in-Some-2.end c.args.leaves.now) (λ (fs : List Formula) (rest : List Leaf). Some (Or fs, drop 1 rest)) given))
+    let given : Some (c.in-Some-2.all, drop c.in-Some-2.end c.args.leaves.now)
+    ≡ formulas_at c.args.names.now c.args.left (drop 2 (drop c.args.at c.args.leaves.now)) =
+    ap (with_rest c.args.leaves.now) (sym c.in-Some-2.is)
+    ∙ (c.in_ok-formulas-in-Or.ensures ∙ ap (formulas_at c.args.names.now c.args.left) c.past-in-Or.ensures) in
+    rw (sign, formula_at)
+    (rw c.past-in-Some-2.ensures
+    (after_is {Y = Formula} (formulas_at c.args.names.now c.args.left (drop 2 (drop c.args.at c.args.leaves.now)))
+    c.in-Some-2.all (drop c.in-Some-2.end c.args.leaves.now)
+    (λ (fs : List Formula) (rest : List Leaf). Some (Or fs, drop 1 rest)) given))
 
 pub formulas-returns-then-closes : goal.formulas-returns-then-closes
 formulas-returns-then-closes t c =

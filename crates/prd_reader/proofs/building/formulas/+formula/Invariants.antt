@@ -17,7 +17,8 @@ decreases-formulas l = 3 * l.most + 1
 
 abbrev pub invariant-formulas-loop-left : goal.invariant-formulas-loop-left
 invariant-formulas-loop-left l =
-    with_front l.all (items_at closes (formula_at l.names l.fn.most) l.left (drop l.at l.leaves)) ≡ formulas_at l.names l.fn.most (drop l.fn.from l.leaves)
+    with_front l.all (items_at closes (formula_at l.names l.fn.most) l.left (drop l.at l.leaves))
+    ≡ formulas_at l.names l.fn.most (drop l.fn.from l.leaves)
 
 abbrev pub decreases-formulas-loop-left : goal.decreases-formulas-loop-left
 decreases-formulas-loop-left l = l.left

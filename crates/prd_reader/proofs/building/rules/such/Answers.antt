@@ -11,12 +11,14 @@ returns-then-ends_such c =
 
 pub returns-in-None : goal.returns-in-None
 returns-in-None c =
-    items_none ends_such (formula_at c.args.names.now c.args.most) c.loop-left.all c.args.leaves.now c.loop-left.at c.loop-left.left
+    items_none ends_such
+    (formula_at c.args.names.now c.args.most) c.loop-left.all c.args.leaves.now c.loop-left.at c.loop-left.left
     c.in_ok-formula.field-0 c.ends_such.result _ c.loop-left.invariant c.loop-left-test.true c.ends_such.ensures c.if-ends_such.false
     c.in-None.is c.in_ok-formula.ensures
 
 pub loop-left-preserved : goal.loop-left-preserved
 loop-left-preserved c =
-    items_step ends_such (formula_at c.args.names.now c.args.most) c.loop-left.all c.push.new.self c.args.leaves.now c.loop-left.at c.loop-left.left
+    items_step ends_such
+    (formula_at c.args.names.now c.args.most) c.loop-left.all c.push.new.self c.args.leaves.now c.loop-left.at c.loop-left.left
     c.in-Some.next _ c.in-Some.one c.in_ok-formula.field-0 c.ends_such.result _ c.loop-left.invariant c.loop-left-test.true refl
     c.ends_such.ensures c.if-ends_such.false c.in-Some.is c.in_ok-formula.ensures c.in_ok-push-in-Some.ensures.ok

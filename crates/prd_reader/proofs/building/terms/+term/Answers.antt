@@ -17,8 +17,12 @@ terms-loop-left-preserved t c =
 
 pub term_within-returns-in-Some : goal.term_within-returns-in-Some
 term_within-returns-in-Some t c =
-    let sign : term_sign (drop c.args.at c.args.leaves.now) ≡ Call c.in-Call.func = sym c.term_sign.ensures ∙ c.in-Call.is in
-    let given : Some (c.in-Some.arguments, drop c.in-Some.end c.args.leaves.now) ≡ terms_at c.args.names.now c.args.left (drop 4 (drop c.args.at c.args.leaves.now)) =
-    ap (with_rest c.args.leaves.now) (sym c.in-Some.is) ∙ (c.in_ok-terms-in-Call.ensures ∙ ap (terms_at c.args.names.now c.args.left) c.past-in-Call.ensures) in
-    rw (sign, term_at) (rw c.past-in-Some.ensures (after_is (terms_at c.args.names.now c.args.left (drop 4 (drop c.args.at c.args.leaves.now)))
+    let sign : term_sign (drop c.args.at c.args.leaves.now) ≡ Call c.in-Call.func = sym c.term_sign.ensures
+    ∙ c.in-Call.is in
+    let given : Some (c.in-Some.arguments, drop c.in-Some.end c.args.leaves.now)
+    ≡ terms_at c.args.names.now c.args.left (drop 4 (drop c.args.at c.args.leaves.now)) =
+    ap (with_rest c.args.leaves.now) (sym c.in-Some.is)
+    ∙ (c.in_ok-terms-in-Call.ensures ∙ ap (terms_at c.args.names.now c.args.left) c.past-in-Call.ensures) in
+    rw (sign, term_at) (rw c.past-in-Some.ensures
+    (after_is (terms_at c.args.names.now c.args.left (drop 4 (drop c.args.at c.args.leaves.now)))
     c.in-Some.arguments (drop c.in-Some.end c.args.leaves.now) (called c.in-Call.func) given))

@@ -14,7 +14,8 @@ decreases-terms l = 3 * l.most + 1
 
 abbrev pub invariant-terms-loop-left : goal.invariant-terms-loop-left
 invariant-terms-loop-left l =
-    with_front l.all (items_at closes (term_at l.names l.fn.most) l.left (drop l.at l.leaves)) ≡ terms_at l.names l.fn.most (drop l.fn.from l.leaves)
+    with_front l.all (items_at closes (term_at l.names l.fn.most) l.left (drop l.at l.leaves))
+    ≡ terms_at l.names l.fn.most (drop l.fn.from l.leaves)
 
 abbrev pub decreases-terms-loop-left : goal.decreases-terms-loop-left
 decreases-terms-loop-left l = l.left

@@ -6,12 +6,14 @@ use Rattle.prd_reader.proofs.building.terms.pairs.Goals as goal
 
 pub returns-in-None : goal.returns-in-None
 returns-in-None c =
-    items_none closes_square (pair_at c.args.names.now c.args.most) c.loop-left.all c.args.leaves.now c.loop-left.at c.loop-left.left
+    items_none closes_square
+    (pair_at c.args.names.now c.args.most) c.loop-left.all c.args.leaves.now c.loop-left.at c.loop-left.left
     c.in_ok-pair.field-0 c.closes_square.result _ c.loop-left.invariant c.loop-left-test.true c.closes_square.ensures c.if-closes_square.false
     c.in-None.is c.in_ok-pair.ensures
 
 pub loop-left-preserved : goal.loop-left-preserved
 loop-left-preserved c =
-    items_step closes_square (pair_at c.args.names.now c.args.most) c.loop-left.all c.push.new.self c.args.leaves.now c.loop-left.at c.loop-left.left
+    items_step closes_square
+    (pair_at c.args.names.now c.args.most) c.loop-left.all c.push.new.self c.args.leaves.now c.loop-left.at c.loop-left.left
     c.in-Some.next _ c.in-Some.one c.in_ok-pair.field-0 c.closes_square.result _ c.loop-left.invariant c.loop-left-test.true refl
     c.closes_square.ensures c.if-closes_square.false c.in-Some.is c.in_ok-pair.ensures c.in_ok-push-in-Some.ensures.ok

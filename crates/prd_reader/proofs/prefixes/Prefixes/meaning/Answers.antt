@@ -13,4 +13,5 @@ returns-in-Some-clause-is c =
 pub returns-in-None-clause-is : goal.returns-in-None-clause-is
 returns-in-None-clause-is c =
     let missed = meaning_missed c.self.inside.declared.entries c.args.name.now (sym c.in-None.ensures.value) in
-    c.meaning_beforehand.ensures.is ∙ (sym missed ∙ ap (λ (p : Prefixes). meaning_in p c.args.name.now) c.self.view_is)
+    c.meaning_beforehand.ensures.is
+    ∙ (sym missed ∙ ap (λ (p : Prefixes). meaning_in p c.args.name.now) c.self.view_is)

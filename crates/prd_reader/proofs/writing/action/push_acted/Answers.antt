@@ -7,4 +7,5 @@ use Rattle.prd_reader.proofs.writing.action.push_acted.Goals as goal
 pub returns-in_ok-push_term-in-RetractObject : goal.returns-in_ok-push_term-in-RetractObject
 returns-in_ok-push_term-in-RetractObject c = λ rest.
     c.in_ok-push_term-in-RetractObject.ensures joined rest
-    ∙ ap (λ (a : Action). c.args.out.now.items ++ spelled_text (acted_spelling c.args.names.now a rest)) (sym c.in-RetractObject.is)
+    ∙ ap (λ (a : Action). c.args.out.now.items ++ spelled_text (acted_spelling c.args.names.now a rest))
+    (sym c.in-RetractObject.is)

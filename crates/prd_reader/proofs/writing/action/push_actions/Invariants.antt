@@ -6,5 +6,6 @@ use Rattle.prd_reader.proofs.writing.action.push_actions.Given as goal
 
 abbrev pub invariant-loop-action : goal.invariant-loop-action
 invariant-loop-action l =
-    (rest : List Spelled) → l.out.items ++ left_text l.is_first (map (action_spelling l.names) (drop l.action-index l.actions)) rest
+    (rest : List Spelled) →
+    l.out.items ++ left_text l.is_first (map (action_spelling l.names) (drop l.action-index l.actions)) rest
     ≡ l.fn.out.items ++ left_text true (map (action_spelling l.names) l.actions) rest

@@ -5,5 +5,6 @@ use Rattle.prd_reader.proofs.writing.action.push_decls.Given as goal
 
 abbrev pub invariant-loop-decl : goal.invariant-loop-decl
 invariant-loop-decl l =
-    (rest : List Spelled) → l.out.items ++ spelled_text (spaced (map (decl_spelling l.names) (drop l.decl-index l.decls)) rest)
+    (rest : List Spelled) →
+    l.out.items ++ spelled_text (spaced (map (decl_spelling l.names) (drop l.decl-index l.decls)) rest)
     ≡ l.fn.out.items ++ spelled_text (spaced (map (decl_spelling l.names) l.decls) rest)

@@ -8,4 +8,5 @@ returns c = λ gap rest.
     c.in_ok-push_bytes-2.ensures (gap_text gap ++ spelled_text rest)
     ∙ (c.in_ok-push_terms.ensures (closing gap ∷ rest)
     ∙ (c.in_ok-push_bytes.ensures _
-    ∙ c.in_ok-push_constant.ensures joined (opening ∷ listed (map (term_spelling c.args.names.now) c.args.arguments.now) (closing gap ∷ rest))))
+    ∙ c.in_ok-push_constant.ensures joined
+    (opening ∷ listed (map (term_spelling c.args.names.now) c.args.arguments.now) (closing gap ∷ rest))))

@@ -8,4 +8,5 @@ returns c = λ gap rest.
     c.in_ok-push_bytes-2.ensures (gap_text gap ++ spelled_text rest)
     ∙ (c.in_ok-push_pairs.ensures (close_square gap ∷ rest)
     ∙ (c.in_ok-push_bytes.ensures _
-    ∙ c.in_ok-push_term.ensures joined (open_square ∷ listed (map (pair_spelling c.args.names.now) c.args.pairs.now) (close_square gap ∷ rest))))
+    ∙ c.in_ok-push_term.ensures joined
+    (open_square ∷ listed (map (pair_spelling c.args.names.now) c.args.pairs.now) (close_square gap ∷ rest))))

@@ -8,4 +8,5 @@ pub returns : goal.returns
 returns c = λ gap rest.
     c.in_ok-push_term-2.ensures gap rest
     ∙ (c.in_ok-push_bytes.ensures _
-    ∙ c.in_ok-push_term.ensures space (spelled Hash (codes "#") space ∷ term_spelling c.args.names.now c.args.class.now gap rest))
+    ∙ c.in_ok-push_term.ensures space
+    (spelled Hash (codes "#") space ∷ term_spelling c.args.names.now c.args.class.now gap rest))

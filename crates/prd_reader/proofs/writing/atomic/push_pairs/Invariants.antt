@@ -6,5 +6,6 @@ use Rattle.prd_reader.proofs.writing.atomic.push_pairs.Given as goal
 
 abbrev pub invariant-loop-pair : goal.invariant-loop-pair
 invariant-loop-pair l =
-    (rest : List Spelled) → l.out.items ++ left_text l.is_first (map (pair_spelling l.names) (drop l.pair-index l.pairs)) rest
+    (rest : List Spelled) →
+    l.out.items ++ left_text l.is_first (map (pair_spelling l.names) (drop l.pair-index l.pairs)) rest
     ≡ l.fn.out.items ++ left_text true (map (pair_spelling l.names) l.pairs) rest

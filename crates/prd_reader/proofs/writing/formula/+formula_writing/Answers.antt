@@ -32,5 +32,6 @@ push_exists-returns t c = λ gap rest.
     c.in_ok-push_bytes-3.ensures (gap_text gap ++ spelled_text rest)
     ∙ (c.in_ok-push_formula.ensures joined (closing gap ∷ rest)
     ∙ (c.in_ok-push_bytes-2.ensures _
-    ∙ (c.in_ok-push_vars.ensures (opening ∷ formula_spelling c.args.names.now c.args.inner.now joined (closing gap ∷ rest))
+    ∙ (c.in_ok-push_vars.ensures
+    (opening ∷ formula_spelling c.args.names.now c.args.inner.now joined (closing gap ∷ rest))
     ∙ c.in_ok-push_bytes.ensures _)))

@@ -5,5 +5,6 @@ use Rattle.prd_reader.proofs.writing.formula.push_such_that.Given as goal
 
 abbrev pub invariant-loop-formula : goal.invariant-loop-formula
 invariant-loop-formula l =
-    (rest : List Spelled) → l.out.items ++ spelled_text (spaced (map (formula_spelling l.names) (drop l.formula-index l.formulas)) rest)
+    (rest : List Spelled) →
+    l.out.items ++ spelled_text (spaced (map (formula_spelling l.names) (drop l.formula-index l.formulas)) rest)
     ≡ l.fn.out.items ++ spelled_text (spaced (map (formula_spelling l.names) l.formulas) rest)

@@ -5,5 +5,6 @@ use Rattle.prd_reader.proofs.writing.formula.push_vars.Given as goal
 
 abbrev pub invariant-loop-var : goal.invariant-loop-var
 invariant-loop-var l =
-    (rest : List Spelled) → l.out.items ++ spelled_text (spaced (map (var_spelling l.names) (drop l.var-index l.vars)) rest)
+    (rest : List Spelled) →
+    l.out.items ++ spelled_text (spaced (map (var_spelling l.names) (drop l.var-index l.vars)) rest)
     ≡ l.fn.out.items ++ spelled_text (spaced (map (var_spelling l.names) l.vars) rest)

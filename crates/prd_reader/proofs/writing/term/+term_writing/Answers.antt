@@ -6,12 +6,15 @@ use Rattle.prd_reader.proofs.WritingLemmas.{item_written, items_written}
 use Rattle.prd_reader.proofs.writing.term.+term_writing.Goals as goal
 
 pub push_terms-loop-term-preserved : goal.push_terms-loop-term-preserved
-push_terms-loop-term-preserved t c = λ rest. item_written (term_spelling c.args.names.now) c.args.terms.now c.loop-term.term-index c.term-item.result
+push_terms-loop-term-preserved t c =
+    λ rest. item_written (term_spelling c.args.names.now) c.args.terms.now c.loop-term.term-index c.term-item.result
     c.loop-term.is_first c.loop-term.out.items c.push_space.new.out.items c.push_term.new.out.items c.loop-term-test.true c.term-item.is c.in_ok-push_space.ensures c.in_ok-push_term.ensures rest
     ∙ c.loop-term.invariant rest
 
 pub push_terms-returns : goal.push_terms-returns
-push_terms-returns t c = λ rest. items_written (term_spelling c.args.names.now) c.args.terms.now c.loop-term.term-index c.loop-term.is_first c.args.out.now.items c.loop-term.out.items c.loop-term-test.false rest (c.loop-term.invariant rest)
+push_terms-returns t c =
+    λ rest. items_written
+    (term_spelling c.args.names.now) c.args.terms.now c.loop-term.term-index c.loop-term.is_first c.args.out.now.items c.loop-term.out.items c.loop-term-test.false rest (c.loop-term.invariant rest)
 
 pub push_call-returns : goal.push_call-returns
 push_call-returns t c = λ gap rest. c.in_ok-push_bytes-3.ensures (gap_text gap ++ spelled_text rest)

@@ -6,5 +6,6 @@ use Rattle.prd_reader.proofs.writing.term.+term_writing.Given as goal
 
 abbrev pub invariant-push_terms-loop-term : goal.invariant-push_terms-loop-term
 invariant-push_terms-loop-term l =
-    (rest : List Spelled) → l.out.items ++ left_text l.is_first (map (term_spelling l.names) (drop l.term-index l.terms)) rest
+    (rest : List Spelled) →
+    l.out.items ++ left_text l.is_first (map (term_spelling l.names) (drop l.term-index l.terms)) rest
     ≡ l.fn.out.items ++ left_text true (map (term_spelling l.names) l.terms) rest
