@@ -101,11 +101,11 @@ deep_cause p l deep =
     go_past (is_refused_type l) _ _ _ (no_type p.brackets l deep) (let_stop (is_too_deep p.brackets l) _ _ deep)
 
 -- the first of the leaves behind a progress at which a refusal stands is a bracket that is too deep
-pub record IsFirstDeep (p : Progress) (ls : List Leaf) : Type 0 where
-  pub place : ℕ
-  pub within : place < length ls
-  pub clear : (i : ℕ) (d : Leaf) → i < place → cause_at (progress_from p (take i ls)) (get_or ls i d) ≡ None
-  pub deep : (d : Leaf) → cause_at (progress_from p (take place ls)) (get_or ls place d) ≡ Some TooDeep
+record IsFirstDeep (p : Progress) (ls : List Leaf) : Type 0 where
+  place : ℕ
+  within : place < length ls
+  clear : (i : ℕ) (d : Leaf) → i < place → cause_at (progress_from p (take i ls)) (get_or ls i d) ≡ None
+  deep : (d : Leaf) → cause_at (progress_from p (take place ls)) (get_or ls place d) ≡ Some TooDeep
 
 clear_before : (p : Progress) (l : Leaf) (ls : List Leaf) (place : ℕ) → cause_at p l ≡ None →
     ((i : ℕ) (d : Leaf) → i < place →
@@ -171,7 +171,7 @@ document_fits t limits =
     all_fit ls at_start (subst KeepTallies (sym led.reads) (rules_tallied rs limits.each)) led.none
     (omega (arith, limits.rules, begun, ended, read))
 
--- a document at whose first place with a refusal a bracket is too deep is refused for it
+-- a document is refused at a bracket that is too deep, where no refusal stands before it
 deep_decides : (t : DocumentTree) (first : IsFirstDeep at_start (spell_document t)) →
     IsRefusedAt (spell_document t) first.place TooDeep
 deep_decides t first =

@@ -1,6 +1,6 @@
 -- The canonical text of a document that was read is read back as the same document, or refused for its length or depth.
 use Rattle.std.proofs.Common.{◌≡◌, ◌≤◌, ◌∙◌, ◌⊎◌, inl, inr, ⊎_elim, ap, refl, sym, subst, ℕ, true, false, nat_lt}
-use Rattle.std.proofs.Common.{List, [], ◌∷◌, ◌++◌, length, IsUtf8, Ok, Err}
+use Rattle.std.proofs.Common.{List, [], ◌∷◌, ◌++◌, length, IsUtf8, Err}
 use Rattle.std.proofs.lemmas.Bool.{ltb-false}
 use Rattle.std.proofs.lemmas.Str.{IsUtf8-nil, IsUtf8-append}
 use Rattle.rif_terms.specs.declared.limits.TheConstants.{MOST_INPUT_BYTES}
