@@ -1,16 +1,21 @@
--- No refusal stands in the canonical tree of a document at which none stood, but for brackets that stand too deep.
-use Rattle.std.proofs.Common.{◌≡◌, ◌<◌, ◌&&◌, ℕ, suc, zero, false, nat_le, List, [], ◌∷◌, refl, ap, ◌∙◌, sym, subst}
-use Rattle.std.proofs.Common.{arith, length, map, take, get_or, None}
+-- No refusal stands in the canonical tree of a document at which none stood, or a bracket that is too deep decides.
+use Rattle.std.proofs.Common.{◌≡◌, ◌<◌, ◌+◌, ◌&&◌, ◌⊎◌, inl, inr, ⊎_elim, ℕ, suc, zero, Bool, true, false, nat_le}
+use Rattle.std.proofs.Common.{List, [], ◌∷◌, refl, ap, ◌∙◌, sym, subst, arith, length, map, take, get_or, Some, None}
+use Rattle.std.proofs.Common.{if◌then◌else◌}
 use Rattle.std.proofs.lemmas.Bool.{or_from, or_parts}
+use Rattle.std.specs.declared.option.Option.{Option}
 use Rattle.rif_terms.specs.declared.limits.TheConstants.{MOST_RULES}
 use Rattle.rif_terms.specs.declared.rule.Rule.{Rule}
+use Rattle.prd_reader.specs.declared.cause.Cause.{Cause}
+use Rattle.prd_reader.specs.declared.cause.Cause.TheVariants.{TooDeep}
 use Rattle.prd_reader.specs.declared.leaf.Leaf.{Leaf}
+use Rattle.prd_reader.specs.declared.leaf.Leaf.TheVariants.{TypeName}
 use Rattle.prd_reader.specs.declared.progress.Bracket.{Bracket}
 use Rattle.prd_reader.specs.Limits.{KeepsLimits, KeepRuleLimits}
 use Rattle.prd_reader.specs.Progress.{Progress, at_start, progress_with, progress_from, rule_at, opened, is_new_rule}
-use Rattle.prd_reader.specs.ReadBack.{IsShallow}
 use Rattle.prd_reader.specs.Refusals.{cause_at, cause_in_rule, is_refused_type, is_too_deep, is_wide, is_undeclared}
 use Rattle.prd_reader.specs.Refusals.{is_unknown, is_wrong_arity, is_bad_strategy, is_bad_priority, IsClear}
+use Rattle.prd_reader.specs.Refusals.{IsRefusedAt}
 use Rattle.prd_reader.specs.Trees.{DocumentTree, spell_document}
 use Rattle.prd_reader.specs.Values.{document_value}
 use Rattle.prd_reader.specs.CanonicalTrees.{canonical_document}
@@ -22,6 +27,7 @@ use Rattle.prd_reader.proofs.CountingLimitLemmas.{rules_counted}
 use Rattle.prd_reader.proofs.CountingPriorityLemmas.{document_in_range}
 use Rattle.prd_reader.proofs.CanonicalDocumentLemmas.{same_document}
 use Rattle.prd_reader.proofs.FittingLemmas.{AreFitting, let_pass, all_fit}
+use Rattle.prd_reader.proofs.OutcomeLemmas.{front_of_document}
 use Rattle.prd_reader.proofs.SoundLeaves.{AreSound, is_amiss, same_brackets}
 use Rattle.prd_reader.proofs.SoundDocumentLemmas.{document_sound}
 
@@ -42,17 +48,6 @@ nothing_amiss p l h =
     (or_from (is_wrong_arity p.brackets l) _ (test_of_if (is_wrong_arity p.brackets l) _ _ h5)
     (or_from (is_bad_strategy p.in_head l) _ (test_of_if (is_bad_strategy p.in_head l) _ _ h6)
     (test_of_if (is_bad_priority p.in_head l) _ _ h7))))))
-
--- no bracket is opened too deep among leaves behind a progress
-abbrev AreShallow : Progress → List Leaf → Type 0
-AreShallow p [] = Unit {0}
-AreShallow p (l ∷ ls) = (is_too_deep p.brackets l ≡ false) × AreShallow (progress_with p l) ls
-
-shallow_behind : (ls : List Leaf) (p : Progress) → ((i : ℕ) (d : Leaf) → i < length ls →
-    is_too_deep (progress_from p (take i ls)).brackets (get_or ls i d) ≡ false) → AreShallow p ls
-shallow_behind [] p h = tt
-shallow_behind (l ∷ ls) p h =
-    (h 0 l (omega arith), shallow_behind ls (progress_with p l) (λ i d below. h (suc i) d (omega arith)))
 
 -- a sound leaf that is neither too deep nor one too many has no refusal
 no_cause : (p : Progress) (l : Leaf) → is_amiss p.brackets p.in_head l ≡ false → is_too_deep p.brackets l ≡ false →
@@ -87,14 +82,67 @@ clear_sound (l ∷ ls) p clear = (
       (same_brackets p.brackets p.last l) (clear_sound ls (progress_with p l) clear.1),
 )
 
-sound_clear : (ls : List Leaf) (p : Progress) → AreSoundBehind p ls → AreShallow p ls → AreFitting p ls → Clear p ls
-sound_clear [] p sound shallow fits = tt
-sound_clear (l ∷ ls) p sound shallow fits = (
-  no_cause p l sound.0 shallow.0 fits.0 fits.1.0,
-  sound_clear ls (progress_with p l)
-      (subst (λ (bs : List Bracket). AreSound bs (opened l) (progress_with p l).in_head ls)
-      (sym (same_brackets p.brackets p.last l)) sound.1) shallow.1 fits.1.1,
-)
+-- a bracket that is too deep is no type, so this is what decides at it
+no_type : (bs : List Bracket) (l : Leaf) → is_too_deep bs l ≡ true → is_refused_type l ≡ false
+no_type bs (TypeName known) deep = cc
+no_type bs l deep = refl
+
+let_stop : (b : Bool) (x : Cause) (rest : Option Cause) → b ≡ true → (if b then Some x else rest) ≡ Some x
+let_stop true x rest e = refl
+let_stop false x rest e = cc
+
+go_past : (b : Bool) (x : Cause) (rest found : Option Cause) → b ≡ false → rest ≡ found →
+    (if b then Some x else rest) ≡ found
+go_past true x rest found e is = cc
+go_past false x rest found e is = is
+
+deep_cause : (p : Progress) (l : Leaf) → is_too_deep p.brackets l ≡ true → cause_at p l ≡ Some TooDeep
+deep_cause p l deep =
+    go_past (is_refused_type l) _ _ _ (no_type p.brackets l deep) (let_stop (is_too_deep p.brackets l) _ _ deep)
+
+-- the first of the leaves behind a progress at which a refusal stands is a bracket that is too deep
+record IsFirstDeep (p : Progress) (ls : List Leaf) : Type 0 where
+  place : ℕ
+  within : place < length ls
+  clear : (i : ℕ) (d : Leaf) → i < place → cause_at (progress_from p (take i ls)) (get_or ls i d) ≡ None
+  deep : (d : Leaf) → cause_at (progress_from p (take place ls)) (get_or ls place d) ≡ Some TooDeep
+
+clear_before : (p : Progress) (l : Leaf) (ls : List Leaf) (place : ℕ) → cause_at p l ≡ None →
+    ((i : ℕ) (d : Leaf) → i < place →
+    cause_at (progress_from (progress_with p l) (take i ls)) (get_or ls i d) ≡ None) →
+    (i : ℕ) (d : Leaf) → i < suc place →
+    cause_at (progress_from p (take i (l ∷ ls))) (get_or (l ∷ ls) i d) ≡ None
+clear_before p l ls place none clear zero d below = none
+clear_before p l ls place none clear (suc i) d below = clear i d (omega arith)
+
+one_behind : (p : Progress) (l : Leaf) (ls : List Leaf) → cause_at p l ≡ None →
+    Clear (progress_with p l) ls ⊎ IsFirstDeep (progress_with p l) ls → Clear p (l ∷ ls) ⊎ IsFirstDeep p (l ∷ ls)
+one_behind p l ls none (inl clear) = inl (none, clear)
+one_behind p l ls none (inr first) =
+    let within = first.within in
+    inr (record {
+      place = suc first.place;
+      within = omega arith;
+      clear = clear_before p l ls first.place none first.clear;
+      deep = first.deep;
+    })
+
+clear_or_deep : (ls : List Leaf) (p : Progress) → AreSoundBehind p ls → AreFitting p ls → Clear p ls ⊎ IsFirstDeep p ls
+clear_or_deep [] p sound fits = inl tt
+clear_or_deep (l ∷ ls) p sound fits =
+    let rest = clear_or_deep ls (progress_with p l)
+    (subst (λ (bs : List Bracket). AreSound bs (opened l) (progress_with p l).in_head ls)
+    (sym (same_brackets p.brackets p.last l)) sound.1) fits.1.1 in
+    elim (is_too_deep p.brackets l) as
+    (λ v. is_too_deep p.brackets l ≡ v → Clear p (l ∷ ls) ⊎ IsFirstDeep p (l ∷ ls)) [
+      | true ↦ λ is. inr (record {
+        place = 0;
+        within = omega arith;
+        clear = λ i d below. absurd (omega arith);
+        deep = λ d. deep_cause p l is;
+      })
+      | false ↦ λ is. one_behind p l ls (no_cause p l sound.0 is fits.0 fits.1.0) rest
+    ] refl
 
 -- the walk's places are those of the leaves
 clear_at : (ls : List Leaf) (p : Progress) → Clear p ls → (i : ℕ) (d : Leaf) → i < length ls →
@@ -123,13 +171,31 @@ document_fits t limits =
     all_fit ls at_start (subst KeepTallies (sym led.reads) (rules_tallied rs limits.each)) led.none
     (omega (arith, limits.rules, begun, ended, read))
 
+-- a document is refused at a bracket that is too deep, where no refusal stands before it
+deep_decides : (t : DocumentTree) (first : IsFirstDeep at_start (spell_document t)) →
+    IsRefusedAt (spell_document t) first.place TooDeep
+deep_decides t first =
+    let ls = spell_document t in
+    let within = first.within in record {
+      within = omega arith;
+      front = front_of_document ls first.place (t, refl);
+      clear = first.clear;
+      here = λ d low. inr (front_of_document ls (first.place + 1) (t, refl), first.deep d);
+      end = λ all. absurd (omega arith);
+    }
+
+-- the leaves are clear, or refused at a bracket that is too deep
+abbrev pub IsClearOrDeep : List Leaf → Type 0
+IsClearOrDeep ls = IsClear ls (length ls) ⊎ ((place : ℕ) × IsRefusedAt ls place TooDeep)
+
 pub canonical_is_clear : (t : DocumentTree) → IsClear (spell_document t) (length (spell_document t)) →
-    IsShallow (spell_document (canonical_document t)) →
-    IsClear (spell_document (canonical_document t)) (length (spell_document (canonical_document t)))
-canonical_is_clear t whole shallow =
+    IsClearOrDeep (spell_document (canonical_document t))
+canonical_is_clear t whole =
     let c = canonical_document t in
     let ls = spell_document c in
     let clear = clear_from (spell_document t) whole in
     let sound = document_sound t (clear_sound (spell_document t) at_start clear) (document_in_range t clear) in
     let limits = subst KeepsLimits (sym (same_document t)) (counts.limits t whole) in
-    clear_at ls at_start (sound_clear ls at_start sound (shallow_behind ls at_start shallow) (document_fits c limits))
+    ⊎_elim (λ (none : Clear at_start ls). inl (clear_at ls at_start none))
+    (λ (first : IsFirstDeep at_start ls). inr (first.place, deep_decides c first))
+    (clear_or_deep ls at_start sound (document_fits c limits))

@@ -28,7 +28,7 @@ front_of_front ls i j low front =
           ∙ append_assoc (take i ls) (drop i (take j ls)) front.0) front.1,
     )
 
-front_of_document : (ls : List Leaf) (i : ℕ) → IsDocument ls → IsFront (take i ls)
+pub front_of_document : (ls : List Leaf) (i : ℕ) → IsDocument ls → IsFront (take i ls)
 front_of_document ls i doc = (drop i ls, subst IsDocument (sym (take-append-drop i ls)) doc)
 
 none_or_some : (found : Option Cause) (cause : Cause) → found ≡ None → found ≡ Some cause → ⊥

@@ -1,22 +1,29 @@
--- The canonical text of a document that was read is read back as the same document.
-use Rattle.std.proofs.Common.{◌≡◌, ◌≤◌, ◌∙◌, ap, refl, sym, subst, List, [], ◌∷◌, ◌++◌, length, IsUtf8}
+-- The canonical text of a document that was read is read back as the same document, or refused for its length or depth.
+use Rattle.std.proofs.Common.{◌≡◌, ◌≤◌, ◌∙◌, ◌⊎◌, inl, inr, ⊎_elim, ap, refl, sym, subst, ℕ, true, false, nat_lt}
+use Rattle.std.proofs.Common.{List, [], ◌∷◌, ◌++◌, length, IsUtf8, Err}
+use Rattle.std.proofs.lemmas.Bool.{ltb-false}
 use Rattle.std.proofs.lemmas.Str.{IsUtf8-nil, IsUtf8-append}
 use Rattle.rif_terms.specs.declared.limits.TheConstants.{MOST_INPUT_BYTES}
+use Rattle.rif_terms.specs.declared.refusal.Refusal.TheVariants.{InputTooLong}
+use Rattle.rif_lex.specs.declared.token.Token.{Token}
+use Rattle.rif_lex.specs.Lexing.{lexed}
 use Rattle.rif_lex.specs.Spelling.{Gap, joined, space, line_feed, gap_text, Spelled, spelled_text}
 use Rattle.rif_lex.proofs.LexingLemmas.{inputs_are_texts}
 use Rattle.rif_lex.proofs.SpellingLemmas.{spelled_is_lexed}
+use Rattle.prd_reader.specs.declared.cause.Cause.TheVariants.{TooDeep}
 use Rattle.prd_reader.specs.declared.leaf.Leaf.{Leaf}
 use Rattle.prd_reader.specs.Canonical.{canonical_spelling, canonical_text}
 use Rattle.prd_reader.specs.CanonicalTrees.{around_members, canonical_document, canonical_group, canonical_prefixes}
+use Rattle.prd_reader.specs.Documents.{IsRead, column_of, line_of}
 use Rattle.prd_reader.specs.Leaves.{leaves_from, leaves_of}
-use Rattle.prd_reader.specs.ReadBack.{CanonicalIsReadBack, IsReadBack, IsShallow}
-use Rattle.prd_reader.specs.Refusals.{IsClear}
+use Rattle.prd_reader.specs.ReadBack.{CanonicalIsReadBack, IsReadBack, IsTooDeep}
+use Rattle.prd_reader.specs.Refusals.{IsClear, IsRefusedAt}
 use Rattle.prd_reader.specs.Trees.{MemberTrees, no_members, rule_member, group_member, PrefixTrees, no_group}
 use Rattle.prd_reader.specs.Trees.{one_group}
 use Rattle.prd_reader.specs.Trees.{prefix, DocumentTree, document, spell_document}
 use Rattle.prd_reader.specs.Values.{document_prefixes, document_value}
 use Rattle.prd_reader.specs.Writable.{IsWritableDocument}
-use Rattle.prd_reader.proofs.CanonicalClearLemmas.{canonical_is_clear}
+use Rattle.prd_reader.proofs.CanonicalClearLemmas.{IsClearOrDeep, canonical_is_clear}
 use Rattle.prd_reader.proofs.CanonicalDocumentLemmas.{same_document}
 use Rattle.prd_reader.proofs.CanonicalLeavesLemmas.{AreTexts, plain_start}
 use Rattle.prd_reader.proofs.ConstantTextLemmas.{low_text}
@@ -50,6 +57,30 @@ none_declared (prefix name iri ps) = none_declared ps
 no_prefixes : (t : DocumentTree) → document_prefixes (canonical_document t) ≡ []
 no_prefixes (document ps) = none_declared ps
 
+-- the tokens of a canonical tree are read as its document, or refused at a bracket that is too deep
+tokens_are_read : (t : DocumentTree) (text : List ℕ) (tokens : List Token) →
+    leaves_of text tokens ≡ spell_document (canonical_document t) →
+    IsClearOrDeep (spell_document (canonical_document t)) →
+    IsRead tokens text (document_value t) [] ⊎ IsTooDeep tokens text
+tokens_are_read t text tokens leaves (inl clear) = inl (record {
+  tree = canonical_document t;
+  spelled = sym leaves;
+  clear = subst (IsClear (leaves_of text tokens)) (count_of_leaves text tokens)
+      (subst (λ (ls : List Leaf). IsClear ls (length ls)) (sym leaves) clear);
+  value = same_document t;
+  declared = no_prefixes t;
+})
+tokens_are_read t text tokens leaves (inr deep) = inr (
+  line_of text tokens deep.0,
+  column_of text tokens deep.0,
+  record {
+    place = deep.0;
+    cause = TooDeep;
+    decides = subst (λ (ls : List Leaf). IsRefusedAt ls deep.0 TooDeep) (sym leaves) deep.1;
+    is = refl;
+  },
+)
+
 tree_is_read_back : (t : DocumentTree) → IsWritableDocument t →
     IsClear (spell_document t) (length (spell_document t)) →
     length (canonical_text (document_value t)) ≤ MOST_INPUT_BYTES →
@@ -66,22 +97,25 @@ tree_is_read_back t writable clear short =
       (
         (inputs_are_texts text tokens).1
             (record { short = short; utf8 = spelled_utf8 ss leads.texts; tokens = lexes.1 }),
-        λ shallow. record {
-          tree = canonical_document t;
-          spelled = sym leaves;
-          clear = subst (IsClear (leaves_of text tokens)) (count_of_leaves text tokens)
-              (subst (λ (ls : List Leaf). IsClear ls (length ls)) (sym leaves)
-              (canonical_is_clear t clear (subst IsShallow leaves shallow)));
-          value = same_document t;
-          declared = no_prefixes t;
-        },
+        tokens_are_read t text tokens leaves (canonical_is_clear t clear),
       ),
     )
 
+long_or_short : (bytes : List ℕ) → (lexed bytes ≡ Err InputTooLong) ⊎ (length bytes ≤ MOST_INPUT_BYTES)
+long_or_short bytes =
+    elim (nat_lt MOST_INPUT_BYTES (length bytes)) as (λ v. nat_lt MOST_INPUT_BYTES (length bytes) ≡ v →
+    (lexed bytes ≡ Err InputTooLong) ⊎ (length bytes ≤ MOST_INPUT_BYTES)) [
+      | true ↦ λ is. inl (rw is refl)
+      | false ↦ λ is. inr (ltb-false _ _ is)
+    ] refl
+
 pub canonical_is_read_back : CanonicalIsReadBack
-canonical_is_read_back bytes tokens doc prefixes lexes read short =
+canonical_is_read_back bytes tokens doc prefixes lexes read =
     let clear = subst (λ (ls : List Leaf). IsClear ls (length ls)) (sym read.spelled)
     (subst (IsClear (leaves_of bytes tokens)) (sym (count_of_leaves bytes tokens)) read.clear) in
-    subst (λ d. IsReadBack (canonical_text d) d) read.value
+    ⊎_elim (λ (long : lexed (canonical_text doc) ≡ Err InputTooLong). inl long)
+    (λ (short : length (canonical_text doc) ≤ MOST_INPUT_BYTES). inr
+    (subst (λ d. IsReadBack (canonical_text d) d) read.value
     (tree_is_read_back read.tree (read_is_writable bytes tokens read.tree lexes read.spelled) clear
-    (subst (λ d. length (canonical_text d) ≤ MOST_INPUT_BYTES) (sym read.value) short))
+    (subst (λ d. length (canonical_text d) ≤ MOST_INPUT_BYTES) (sym read.value) short))))
+    (long_or_short (canonical_text doc))

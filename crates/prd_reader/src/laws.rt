@@ -7,8 +7,8 @@ pub fn one_outcome()
     ensures { OneOutcome }
 {}
 
-/// Law: the canonical text of a document that was read is read back as the same document, without prefixes, unless
-/// it is longer than an input may be, or a bracket in it stands deeper than one may.
+/// Law: the canonical text of a document that was read is read back as the same document, without prefixes, or it is
+/// refused, where it is longer than an input may be, or at a bracket in it that stands deeper than one may.
 pub fn canonical_is_read_back()
     ensures { CanonicalIsReadBack }
 {}
