@@ -6,6 +6,9 @@ use rif_terms::OutOfMemory;
 // How many characters of a text are shown.
 const MOST_CHARACTERS: u64 = 40;
 
+// How many characters of a built-in's name are shown, which is enough for its IRI.
+const MOST_OF_NAME: u64 = 100;
+
 /// Puts a text between backquotes at the end of `out`, as `push_short` does.
 pub(crate) fn push_quoted(out: &mut Vec<u8>, text: &[u8]) -> Result<(), OutOfMemory> {
     out.push(b'`')?;
@@ -17,7 +20,16 @@ pub(crate) fn push_quoted(out: &mut Vec<u8>, text: &[u8]) -> Result<(), OutOfMem
 /// Puts at most 40 characters of a text at the end of `out`, with `..` behind where there are more, and a space
 /// in place of each control character.
 pub(crate) fn push_short(out: &mut Vec<u8>, text: &[u8]) -> Result<(), OutOfMemory> {
-    let end = length_of(text, MOST_CHARACTERS);
+    push_cut(out, text, MOST_CHARACTERS)
+}
+
+/// The same with more characters, for a built-in's name.
+pub(crate) fn push_name(out: &mut Vec<u8>, name: &[u8]) -> Result<(), OutOfMemory> {
+    push_cut(out, name, MOST_OF_NAME)
+}
+
+fn push_cut(out: &mut Vec<u8>, text: &[u8], most: u64) -> Result<(), OutOfMemory> {
+    let end = length_of(text, most);
     for byte in &text[..end] {
         out.push(if byte.is_ascii_control() { b' ' } else { *byte })?;
     }
