@@ -54,12 +54,14 @@ pub(crate) fn line_at(bytes: &[u8], line: u64) -> &[u8] {
     }
 }
 
-/// What of a text stands before the first white space.
-pub(crate) fn before_white(text: &[u8]) -> &[u8] {
-    match text.iter().position(|byte| is_white(*byte)) {
-        Some(end) => &text[..end],
-        None => text,
+/// What of a text stands before the first bracket or white space behind its first character.
+pub(crate) fn before_break(text: &[u8]) -> &[u8] {
+    for at in 1..text.len() {
+        if is_break(text[at]) {
+            return &text[..at];
+        }
     }
+    text
 }
 
 /// Whether the string that a text begins with is closed in its line.
@@ -92,10 +94,10 @@ fn length_of(text: &[u8], characters: u64) -> usize
     text.len()
 }
 
-// White space between tokens.
-fn is_white(byte: u8) -> bool {
+// A bracket, or white space between tokens.
+fn is_break(byte: u8) -> bool {
     match byte {
-        b' ' | b'\t' | b'\r' | b'\n' => true,
+        b'(' | b')' | b'[' | b']' | b' ' | b'\t' | b'\r' | b'\n' => true,
         _ => false,
     }
 }

@@ -5,6 +5,8 @@ ghost use Rattle.rif_lex.specs.Lexing.{lexed};
 mod brackets;
 mod calls;
 mod expected;
+mod keywords;
+mod names;
 mod spot;
 mod unreadable;
 
@@ -12,7 +14,9 @@ use crate::document_leaves::leaves;
 use crate::excerpt::{line_at, push_quoted, text_at};
 use crate::explaining::brackets::push_open_bracket;
 use crate::explaining::calls::{call_at, push_call};
-use crate::explaining::expected::push_expected;
+use crate::explaining::expected::{push_expected, push_integers, push_types};
+use crate::explaining::keywords::push_keyword;
+use crate::explaining::names::{push_external, push_other_builtin};
 use crate::explaining::spot::Spot;
 use crate::explaining::unreadable::push_unreadable;
 use crate::leaf::Leaf;
@@ -22,8 +26,8 @@ use rif_terms::{OutOfMemory, Refusal};
 use std::alloc::Global;
 
 /// A refusal of a document in words, for people: its own text, the token at its place, and where something else
-/// is expected, what that could be. The condition is that the tokens are those of the bytes. A refusal that names
-/// no token has its own text alone.
+/// is expected, what that could be, and what may be meant. The condition is that the tokens are those of the
+/// bytes. A refusal that names no token has its own text alone.
 ///
 /// The cost is that of reading the document up to there. No clause says what the text is.
 ///
@@ -38,11 +42,12 @@ pub fn explain(
 {
     let mut out = refusal.to_string(alloc)?.into_bytes();
     if let Some((line, col)) = place_of(refusal) {
-        let (leaves, _) = leaves(alloc, tokens, bytes)?;
+        let (leaves, prefixes) = leaves(alloc, tokens, bytes)?;
         let spot = Spot {
             bytes,
             tokens,
             leaves: leaves.as_slice(),
+            prefixes: &prefixes,
             at: index_of(tokens, line, col),
         };
         push_found(&mut out, refusal, &spot)?;
@@ -140,8 +145,21 @@ fn push_more(
     match refusal {
         Refusal::Expected { .. } => {
             push_expected(alloc, out, spot)?;
-            push_open_bracket(out, spot)
+            push_hint(alloc, out, spot)
         }
+        Refusal::IntRange { .. } => push_integers(out),
+        Refusal::LeftOut { .. } => push_types(out, spot.leaf()),
+        Refusal::UnknownBuiltin { .. } => push_other_builtin(alloc, out, spot),
+        _ => Ok(()),
+    }
+}
+
+// What may be meant where something else is expected.
+fn push_hint(alloc: Global, out: &mut Vec<u8>, spot: &Spot<'_>) -> Result<(), OutOfMemory> {
+    match spot.leaf() {
+        None | Some(Leaf::Close | Leaf::CloseSquare) => push_open_bracket(out, spot),
+        Some(Leaf::Word(word)) => push_keyword(out, word.bytes()),
+        Some(Leaf::Open) => push_external(alloc, out, spot),
         _ => Ok(()),
     }
 }

@@ -5,7 +5,8 @@ use crate::following::advance;
 use crate::leaf::{Leaf, Literal};
 use crate::want::Want;
 use crate::wanted::words_of;
-use rif_terms::OutOfMemory;
+use itoa::Buffer;
+use rif_terms::{GREATEST_INTEGER, LEAST_INTEGER, OutOfMemory};
 use std::alloc::Global;
 use std::collections::VecDeque;
 
@@ -30,8 +31,8 @@ fn is_misspelled(stack: &mut VecDeque<Want>, leaf: Option<&Leaf>) -> Result<bool
     }
 }
 
-// What has still to come behind the leaves.
-fn wanted_behind(alloc: Global, leaves: &[Leaf]) -> Result<VecDeque<Want>, OutOfMemory> {
+/// What has still to come behind the leaves.
+pub fn wanted_behind(alloc: Global, leaves: &[Leaf]) -> Result<VecDeque<Want>, OutOfMemory> {
     let mut stack = VecDeque::new(alloc);
     stack.push_back(Want::Document)?;
     for leaf in leaves {
@@ -52,4 +53,24 @@ fn wanted_text(alloc: Global, want: Option<&Want>) -> Result<Vec<u8>, OutOfMemor
         None => out.extend_from_slice(b"the end of the document")?,
     }
     Ok(out)
+}
+
+/// The integers that there are.
+pub fn push_integers(out: &mut Vec<u8>) -> Result<(), OutOfMemory> {
+    let mut number = Buffer::new();
+    out.extend_from_slice(b", expected ")?;
+    out.extend_from_slice(number.format(LEAST_INTEGER).as_bytes())?;
+    out.extend_from_slice(b" to ")?;
+    out.extend_from_slice(number.format(GREATEST_INTEGER).as_bytes())?;
+    Ok(())
+}
+
+/// The types that there are, where a leaf is a type.
+pub fn push_types(out: &mut Vec<u8>, leaf: Option<&Leaf>) -> Result<(), OutOfMemory> {
+    if let Some(Leaf::TypeName(_)) = leaf {
+        out.extend_from_slice(
+            b", expected xs:integer, xs:boolean, xs:string, rif:iri or rif:local",
+        )?;
+    }
+    Ok(())
 }

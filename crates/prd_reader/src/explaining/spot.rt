@@ -1,14 +1,17 @@
 //! A place of a document: what stands there, and before it.
 use crate::leaf::Leaf;
+use crate::prefixes::Prefixes;
 use crate::token_text::text_of;
 use rif_lex::{Kind, Token};
 
-/// A place of a document, with the tokens and the leaves of all of it. Behind the last token the end stands.
+/// A place of a document, with the tokens, the leaves and the prefixes of all of it. Behind the last token the
+/// end stands.
 #[derive(Clone, Copy)]
 pub struct Spot<'a> {
     pub bytes: &'a [u8],
     pub tokens: &'a [Token],
     pub leaves: &'a [Leaf],
+    pub prefixes: &'a Prefixes,
     /// Which token stands at the place.
     pub at: usize,
 }

@@ -63,6 +63,33 @@ static EXPECTED: &[(u64, &str, &str)] = &[
         "Document(Group(Do((?ä _o[_s -> ?é]) Assert(_p(?ä)))))",
         "found `?é`, expected the variable ?ä",
     ),
+    (
+        16,
+        "Document(Group(IF _a() Then Do(Assert(_b()))))",
+        "found `IF`, expected a rule, `Group` or `)`; did you mean `If`?",
+    ),
+    (
+        16,
+        "Document(Group(forall ?x (If _p(?x) Then Do(Assert(_q(?x))))))",
+        "found `forall`, expected a rule, `Group` or `)`; did you mean `Forall`?",
+    ),
+    (
+        49,
+        "Document(Group(Forall ?x (If _p(func:numeric-add(?x 1)) Then Do(Assert(_q(?x))))))",
+        "found `(`, expected a term or `)`; a built-in's call is written External(func:numeric-add(..))",
+    ),
+    (
+        94,
+        "Document(Group(Forall ?x (If ?x = \
+         <http://www.w3.org/2007/rif-builtin-function#string-length>(\"a\") Then Do(Assert(_q(?x))))))",
+        "found `(`, expected `Then`; a built-in's call is written \
+         External(<http://www.w3.org/2007/rif-builtin-function#string-length>(..))",
+    ),
+    (
+        37,
+        "Document(Group(Forall ?x (If _p(_add(?x 1)) Then Do(Assert(_q(?x))))))",
+        "found `(`, expected a term or `)`",
+    ),
 ];
 
 #[test]
@@ -85,6 +112,14 @@ fn what_is_left_out_is_named(rt: HostRuntime) -> Result<(), Fail> {
         &import,
         "found `Import`",
     )?;
+    let date = Refusal::LeftOut { line: 1, col: 34 };
+    compare(
+        &rt,
+        alloc,
+        "Document(Group(Do(Assert(_p(\"1\"^^xs:date)))))",
+        &date,
+        "found `xs:date`, expected xs:integer, xs:boolean, xs:string, rif:iri or rif:local",
+    )?;
     let whole = Refusal::LeftOut { line: 1, col: 1 };
     let words = "the job is read, but can't be run yet";
     compare(&rt, alloc, "Document(Group())", &whole, words)
@@ -98,12 +133,14 @@ static ARITIES: &[(u64, &str, &str)] = &[
     ),
     (
         123,
-        "Document(Group(Forall ?x (If And(_p(?x) External(pred:is-literal-integer(?x External(func:numeric-add(1 2)) \"a\"^^xs:string))) Then Do(Assert(_q(?x))))))",
+        "Document(Group(Forall ?x (If And(_p(?x) External(pred:is-literal-integer(?x \
+         External(func:numeric-add(1 2)) \"a\"^^xs:string))) Then Do(Assert(_q(?x))))))",
         "`pred:is-literal-integer` takes 1 argument, found 3",
     ),
     (
         103,
-        "Document(Group(Forall ?x (If And(_p(?x) External(<http://www.w3.org/2007/rif-builtin-function#concat>()) = 1) Then Do(Assert(_q(?x))))))",
+        "Document(Group(Forall ?x (If And(_p(?x) \
+         External(<http://www.w3.org/2007/rif-builtin-function#concat>()) = 1) Then Do(Assert(_q(?x))))))",
         "`<http://www.w3.org/2007/rif-builtin-function#concat>` takes 2 to 16 arguments, found 0",
     ),
 ];
@@ -117,9 +154,55 @@ fn the_number_of_arguments_is_named(rt: HostRuntime) -> Result<(), Fail> {
     Ok(())
 }
 
+static BUILTINS: &[(u64, &str, &str)] = &[
+    (
+        50,
+        "Document(Group(Forall ?x (If And(_p(?x) External(pred:numeric-subtract(?x 1))) Then Do(Assert(_q(?x))))))",
+        "found `pred:numeric-subtract`; did you mean `func:numeric-subtract`?",
+    ),
+    (
+        50,
+        "Document(Group(Forall ?x (If And(_p(?x) \
+         External(<http://www.w3.org/2007/rif-builtin-function#contains>(?x \"a\"))) Then Do(Assert(_q(?x))))))",
+        "found `<http://www.w3.org/2007/rif-builtin-func..`; did you mean `pred:contains`?",
+    ),
+    (
+        50,
+        "Document(Group(Forall ?x (If And(_p(?x) External(pred:numeric-more(?x 1))) Then Do(Assert(_q(?x))))))",
+        "found `pred:numeric-more`",
+    ),
+    (
+        63,
+        "Document(Prefix(func <http://a/>) Group(Do(Assert(_p(External(func:numeric-add(1 2)))))))",
+        "found `func:numeric-add`",
+    ),
+];
+
+#[test]
+fn a_builtin_of_the_other_namespace_is_named(rt: HostRuntime) -> Result<(), Fail> {
+    for (col, document, words) in BUILTINS {
+        let refusal = Refusal::UnknownBuiltin { line: 1, col: *col };
+        compare(&rt, rt.alloc(), document, &refusal, words)?;
+    }
+    Ok(())
+}
+
+#[test]
+fn the_integers_are_named(rt: HostRuntime) -> Result<(), Fail> {
+    let refusal = Refusal::IntRange { line: 1, col: 29 };
+    let document = "Document(Group(Do(Assert(_p(9223372036854775808)))))";
+    let words = "found `9223372036854775808`, expected -9223372036854775808 to 9223372036854775807";
+    compare(&rt, rt.alloc(), document, &refusal, words)
+}
+
 static UNREADABLE: &[(&str, &str)] = &[
-    ("05]\n", "`05]`"),
+    ("05]\n", "a number with a leading zero"),
+    ("-007 ", "a number with a leading zero"),
+    ("5a]", "`5a`"),
+    ("0x1f)", "`0x1f`"),
+    ("%", "`%`"),
     ("% b", "`%`"),
+    ("%(a", "`%`"),
     ("\0", "a control character"),
     ("(* a", "an annotation that isn't closed"),
     ("\"a\\\" b\n\"", "a string that isn't closed"),
