@@ -43,7 +43,8 @@ fn behind<'a>(namespace: &[u8], iri: &'a [u8]) -> Option<&'a [u8]>
     }
 }
 
-fn func_named(text: &[u8]) -> BuiltinName
+/// The function of a name in its namespace.
+pub(crate) fn func_named(text: &[u8]) -> BuiltinName
     ensures { result ≡ func_named text.now }
 {
     let func = if text == b"numeric-add".as_slice() {
@@ -68,7 +69,8 @@ fn func_named(text: &[u8]) -> BuiltinName
     BuiltinName::Known(Builtin::Func(func))
 }
 
-fn pred_named(text: &[u8]) -> BuiltinName
+/// The predicate of a name in its namespace.
+pub(crate) fn pred_named(text: &[u8]) -> BuiltinName
     ensures { result ≡ pred_named text.now }
 {
     let pred = if text == b"numeric-equal".as_slice() {

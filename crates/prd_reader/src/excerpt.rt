@@ -6,6 +6,9 @@ use rif_terms::OutOfMemory;
 // How many characters of a text are shown.
 const MOST_CHARACTERS: u64 = 40;
 
+// How many characters of a built-in's name are shown, which is enough for its IRI.
+const MOST_OF_NAME: u64 = 100;
+
 /// Puts a text between backquotes at the end of `out`, as `push_short` does.
 pub(crate) fn push_quoted(out: &mut Vec<u8>, text: &[u8]) -> Result<(), OutOfMemory> {
     out.push(b'`')?;
@@ -17,7 +20,16 @@ pub(crate) fn push_quoted(out: &mut Vec<u8>, text: &[u8]) -> Result<(), OutOfMem
 /// Puts at most 40 characters of a text at the end of `out`, with `..` behind where there are more, and a space
 /// in place of each control character.
 pub(crate) fn push_short(out: &mut Vec<u8>, text: &[u8]) -> Result<(), OutOfMemory> {
-    let end = length_of(text, MOST_CHARACTERS);
+    push_cut(out, text, MOST_CHARACTERS)
+}
+
+/// The same with more characters, for a built-in's name.
+pub(crate) fn push_name(out: &mut Vec<u8>, name: &[u8]) -> Result<(), OutOfMemory> {
+    push_cut(out, name, MOST_OF_NAME)
+}
+
+fn push_cut(out: &mut Vec<u8>, text: &[u8], most: u64) -> Result<(), OutOfMemory> {
+    let end = length_of(text, most);
     for byte in &text[..end] {
         out.push(if byte.is_ascii_control() { b' ' } else { *byte })?;
     }
@@ -42,12 +54,14 @@ pub(crate) fn line_at(bytes: &[u8], line: u64) -> &[u8] {
     }
 }
 
-/// What of a text stands before the first white space.
-pub(crate) fn before_white(text: &[u8]) -> &[u8] {
-    match text.iter().position(|byte| is_white(*byte)) {
-        Some(end) => &text[..end],
-        None => text,
+/// What of a text stands before the first bracket or white space behind its first character.
+pub(crate) fn before_break(text: &[u8]) -> &[u8] {
+    for at in 1..text.len() {
+        if is_break(text[at]) {
+            return &text[..at];
+        }
     }
+    text
 }
 
 /// Whether the string that a text begins with is closed in its line.
@@ -80,10 +94,10 @@ fn length_of(text: &[u8], characters: u64) -> usize
     text.len()
 }
 
-// White space between tokens.
-fn is_white(byte: u8) -> bool {
+// A bracket, or white space between tokens.
+fn is_break(byte: u8) -> bool {
     match byte {
-        b' ' | b'\t' | b'\r' | b'\n' => true,
+        b'(' | b')' | b'[' | b']' | b' ' | b'\t' | b'\r' | b'\n' => true,
         _ => false,
     }
 }
