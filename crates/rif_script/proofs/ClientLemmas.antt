@@ -1,23 +1,23 @@
 -- The client of a name among those that are known, and a script's next line.
 use Rattle.std.proofs.Common.{◌≡◌, ◌≢◌, ◌∙◌, ◌==◌, sym, subst, ap, refl, ℕ, ◌+◌, ◌<◌, ◌≤◌, nat_le, nat_lt, not, ◌&&◌}
-use Rattle.std.proofs.Common.{suc, Bool, true, false, List, [], ◌∷◌, ◌++◌, take, drop, length, length-drop, arith, ◌⊎◌}
-use Rattle.std.proofs.Common.{inl, inr}
+use Rattle.std.proofs.Common.{suc, Bool, true, false, List, [], ◌∷◌, ◌++◌, take, drop, length, length-drop, arith, inl}
+use Rattle.std.proofs.Common.{inr}
 use Rattle.std.specs.Prelude.{Ok, Err}
 use Rattle.std.specs.declared.result.Result.{Result}
 use Rattle.std.proofs.lemmas.Bool.Decides.{nat_tests}
 use Rattle.rif_terms.specs.declared.limits.TheConstants.{MOST_BUDGETS, MOST_CLIENTS, MOST_ITEMS}
 use Rattle.rif_terms.specs.declared.refusal.Refusal.{Refusal}
-use Rattle.rif_terms.specs.declared.refusal.Refusal.TheVariants.{BudgetTooLarge, TooManyClients, TooManyItems}
+use Rattle.rif_terms.specs.declared.refusal.Refusal.TheVariants.{TooManyClients}
 use Rattle.rif_terms.specs.declared.fault.Fault.{Fault}
 use Rattle.rif_terms.specs.declared.fault.Fault.TheVariants.{Refused, OutOfMemory}
 use Rattle.rif_lex.specs.Lexing.{Answers}
 use Rattle.prd_reader.specs.Prefixes.{Prefixes}
-use Rattle.prd_reader.specs.Values.{has_name, place_of, with_name}
+use Rattle.prd_reader.specs.Values.{has_name, place_of}
 use Rattle.session_states.specs.declared.item.Item.{Item}
 use Rattle.rif_script.specs.declared.script.Script.{Script}
 use Rattle.rif_script.specs.Jobs.{budget_of, lines_of}
 use Rattle.rif_script.specs.ReadingLines.{and_then, line_length, with_line, with_lines, with_sent}
-use Rattle.rif_script.specs.ScriptSteps.{budgets_with, client_with, room_for, with_client, with_room}
+use Rattle.rif_script.specs.ScriptSteps.{client_with, room_for, with_client, with_room}
 use Rattle.rif_script.proofs.NumberingLemmas.{either, place_at_end, place_within}
 use Rattle.rif_script.proofs.TextLineLemmas.{first_of_lines, line_grows, line_within}
 

@@ -1,27 +1,25 @@
 -- Constants: what is read is spelled so, and what is spelled so is read.
-use Rattle.std.proofs.Common.{◌≡◌, ◌∙◌, sym, subst, ap, refl, ℕ, ℤ, ◌≤◌, ◌+◌, zero, suc, Bool, true, false, ◌||◌, List}
-use Rattle.std.proofs.Common.{[], ◌∷◌, ◌++◌, append_assoc, append-nil, Option, Some, None, drop, length, length-append}
-use Rattle.std.proofs.Common.{arith, ◌⊎◌, inl, inr}
+use Rattle.std.proofs.Common.{◌≡◌, ◌∙◌, sym, subst, ap, refl, ℕ, ◌≤◌, zero, suc, Bool, true, false, ◌||◌, List, [], ◌∷◌}
+use Rattle.std.proofs.Common.{◌++◌, append_assoc, append-nil, Option, Some, None, drop, length, length-append, arith}
+use Rattle.std.proofs.Common.{◌⊎◌, inl, inr}
 use Rattle.std.specs.List.{list_any}
 use Rattle.rif_terms.specs.declared.constant.Const.{Const}
 use Rattle.rif_terms.specs.declared.constant.Const.TheVariants.{Int as IntConst, Bool as BoolConst, Str as StrConst}
-use Rattle.rif_terms.specs.declared.constant.Const.TheVariants.{Iri as IriConst, Local as LocalConst, Fresh}
-use Rattle.prd_reader.specs.declared.leaf.Keyword.{Keyword}
+use Rattle.rif_terms.specs.declared.constant.Const.TheVariants.{Iri as IriConst, Local as LocalConst}
 use Rattle.prd_reader.specs.declared.leaf.Keyword.TheVariants.{True, False}
 use Rattle.prd_reader.specs.declared.leaf.Literal.{Literal}
 use Rattle.prd_reader.specs.declared.leaf.Literal.TheVariants.{Integer, Boolean, String, Iri as IriLiteral}
 use Rattle.prd_reader.specs.declared.leaf.Literal.TheVariants.{Local as LocalLiteral, OfNoType}
 use Rattle.prd_reader.specs.declared.leaf.Leaf.{Leaf}
-use Rattle.prd_reader.specs.declared.leaf.Leaf.TheVariants.{Key, LeftOut, Word, Int, Str, Typed, Misspelled, TypeName}
-use Rattle.prd_reader.specs.declared.leaf.Leaf.TheVariants.{Iri, Curie, Builtin, Local, Var, Open, Close, OpenSquare}
-use Rattle.prd_reader.specs.declared.leaf.Leaf.TheVariants.{CloseSquare, Equal, Hash, Arrow, Carets}
+use Rattle.prd_reader.specs.declared.leaf.Leaf.TheVariants.{Key, Int, Str, Typed, TypeName, Iri, Curie, Local, Close}
+use Rattle.prd_reader.specs.declared.leaf.Leaf.TheVariants.{Carets}
 use Rattle.prd_reader.specs.FactForm.{HasNoRefusal, is_refused, ConstTrees, no_consts, consts, terms_of_consts}
 use Rattle.prd_reader.specs.FactForm.{consts_value}
 use Rattle.prd_reader.specs.Trees.{ConstTree, const_int, const_string, const_typed, const_iri, const_curie, const_local}
 use Rattle.prd_reader.specs.Trees.{const_true, const_false, spell_const, NameTree, name_iri, name_curie, name_local}
 use Rattle.prd_reader.specs.Trees.{name_typed_iri, name_typed_local, const_of_name, spell_terms}
 use Rattle.prd_reader.specs.Values.{const_value, literal_value}
-use Rattle.rif_script.specs.ReadingItems.{◌>>=◌, begins_close, const_behind, const_from, const_of, consts_from, is_name}
+use Rattle.rif_script.specs.ReadingItems.{◌>>=◌, begins_close, const_behind, const_from, consts_from, is_name}
 use Rattle.rif_script.specs.ReadingItems.{literal_const, past_type, whole}
 
 pub bind_some : {A B : Type 0} (o : Option A) (f : A → Option B) (y : B) → (o >>= f) ≡ Some y →

@@ -1,18 +1,16 @@
 -- Constants that are read one after another, up to a bracket.
-use Rattle.std.proofs.Common.{◌≡◌, ◌∙◌, sym, ap, refl, ℕ, ◌+◌, ◌<◌, zero, suc, true, false, List, [], ◌∷◌, ◌++◌}
-use Rattle.std.proofs.Common.{append_assoc, append-nil, Option, Some, None, arith}
-use Rattle.std.specs.Prelude.{Ok, Err}
-use Rattle.std.specs.declared.result.Result.{Result}
+use Rattle.std.proofs.Common.{◌≡◌, ◌∙◌, sym, ap, refl, ℕ, suc, true, false, List, [], ◌∷◌, ◌++◌, append_assoc}
+use Rattle.std.proofs.Common.{append-nil, Option, Some, None}
+use Rattle.std.specs.Prelude.{Err}
 use Rattle.rif_terms.specs.declared.constant.Const.{Const}
 use Rattle.prd_reader.specs.declared.leaf.Leaf.{Leaf}
 use Rattle.prd_reader.specs.declared.leaf.Leaf.TheVariants.{Close}
 use Rattle.rif_script.specs.declared.sent_tokens.SentTokens.{SentTokens}
 use Rattle.rif_script.specs.declared.line_fault.LineFault.{LineFault}
 use Rattle.rif_script.specs.declared.line_fault.LineFault.TheVariants.{Bad, OutOfMemory}
-use Rattle.rif_script.specs.ReadingItems.{◌>>=◌, begins_close, const_behind, const_from, consts_after, consts_from}
+use Rattle.rif_script.specs.ReadingItems.{◌>>=◌, begins_close, const_from, consts_after, consts_from}
 use Rattle.rif_script.specs.SentLeaves.{Gives, leaves_past, seen, texts_left}
 use Rattle.rif_script.proofs.ConstLemmas.{IsFound}
-use Rattle.rif_script.proofs.FirstLeafLemmas.{const_first}
 use Rattle.rif_script.proofs.SentLeafLemmas.{calm_leaves}
 
 -- a call that answers nothing answers so of what gives nothing where this does

@@ -1,15 +1,13 @@
 -- Facts, and what may be retracted: what is read is spelled so, and what is spelled so is read.
-use Rattle.std.proofs.Common.{◌≡◌, ◌∙◌, sym, subst, ap, refl, ℕ, ℤ, pos, negsuc, ◌≤◌, Bool, true, false, List, [], ◌∷◌}
-use Rattle.std.proofs.Common.{◌++◌, append_assoc, append-nil, Option, Some, None, cond, length, arith, ◌⊎◌, inl, inr}
+use Rattle.std.proofs.Common.{◌≡◌, ◌∙◌, sym, subst, ap, refl, ℕ, pos, negsuc, Bool, true, false, List, [], ◌∷◌, ◌++◌}
+use Rattle.std.proofs.Common.{append-nil, Option, Some, None, cond, length, arith, ◌⊎◌, inl, inr}
 use Rattle.rif_terms.specs.declared.constant.Const.{Const}
 use Rattle.rif_terms.specs.declared.change.Change.{Change}
 use Rattle.rif_terms.specs.declared.change.Change.TheVariants.{Assert, Retract, RetractSlot, RetractObject, Modify}
 use Rattle.rif_terms.specs.declared.fact.Fact.{Fact}
 use Rattle.rif_terms.specs.declared.fact.Fact.TheVariants.{Atom, Frame, Member}
 use Rattle.prd_reader.specs.declared.leaf.Leaf.{Leaf}
-use Rattle.prd_reader.specs.declared.leaf.Leaf.TheVariants.{Key, LeftOut, Word, Int, Str, Typed, Misspelled, TypeName}
-use Rattle.prd_reader.specs.declared.leaf.Leaf.TheVariants.{Iri, Curie, Builtin, Local, Var, Open, Close, OpenSquare}
-use Rattle.prd_reader.specs.declared.leaf.Leaf.TheVariants.{CloseSquare, Equal, Hash, Arrow, Carets}
+use Rattle.prd_reader.specs.declared.leaf.Leaf.TheVariants.{Int, Open, OpenSquare, CloseSquare, Hash, Arrow}
 use Rattle.prd_reader.specs.FactForm.{HasNoRefusal, ConstTrees, terms_of_consts, consts_value, FactTree, fact_member}
 use Rattle.prd_reader.specs.FactForm.{fact_frame, fact_atom, spell_fact, fact_value, IsConstForm, IsConstsForm}
 use Rattle.prd_reader.specs.FactForm.{IsFactForm, IsNumberForm}
@@ -17,13 +15,13 @@ use Rattle.prd_reader.specs.Trees.{ConstTree, const_int, const_string, const_typ
 use Rattle.prd_reader.specs.Trees.{const_true, const_false, spell_const, NameTree, const_of_name, spell_name}
 use Rattle.prd_reader.specs.Trees.{spell_terms}
 use Rattle.prd_reader.specs.Values.{const_value}
-use Rattle.rif_script.specs.ReadingItems.{◌>>=◌, atom_from, begins_fact_sign, const_from, consts_from, fact_behind}
-use Rattle.rif_script.specs.ReadingItems.{fact_from, fact_with, frame_from, is_fact_sign, is_name, member_from}
-use Rattle.rif_script.specs.ReadingItems.{modified_from, modify_of, natural_of, number_from, number_of, past_arrow}
-use Rattle.rif_script.specs.ReadingItems.{past_close_square, retracted_from, retracted_with, slot_with, whole}
+use Rattle.rif_script.specs.ReadingItems.{atom_from, const_from, consts_from, fact_behind, fact_from, fact_with}
+use Rattle.rif_script.specs.ReadingItems.{frame_from, is_fact_sign, is_name, member_from, modified_from, modify_of}
+use Rattle.rif_script.specs.ReadingItems.{number_from, number_of, past_arrow, past_close_square, retracted_from}
+use Rattle.rif_script.specs.ReadingItems.{retracted_with, slot_with}
 use Rattle.rif_script.proofs.ConstLemmas.{bind_some, clear_behind, clear_front, clear_joined, const_again, const_last}
-use Rattle.rif_script.proofs.ConstLemmas.{const_read, consts_again, consts_read, either, IsConstFront, IsConstsFront}
-use Rattle.rif_script.proofs.ConstLemmas.{IsFound, name_is, name_tree, nothing_left, some_leaf, some_same}
+use Rattle.rif_script.proofs.ConstLemmas.{const_read, consts_again, consts_read, IsConstFront, IsConstsFront, IsFound}
+use Rattle.rif_script.proofs.ConstLemmas.{name_is, name_tree, nothing_left, some_same}
 
 same_front : (ls : List Leaf) (c : Const) (rest more : List Leaf) (is : rest ≡ more) → IsConstFront ls c rest →
     IsConstFront ls c more

@@ -1,5 +1,5 @@
 -- What is given by the leaves that are left, where the first of them is known.
-use Rattle.std.proofs.Common.{ℕ, ◌≡◌, ◌∙◌, sym, ap, refl, true, false, cond, Bool, List, [], ◌∷◌, Option, Some, None}
+use Rattle.std.proofs.Common.{ℕ, ◌≡◌, ◌∙◌, ap, refl, true, false, List, [], ◌∷◌, Option, Some, None}
 use Rattle.std.specs.Option.{MatchOption}
 use Rattle.rif_terms.specs.declared.constant.Const.{Const}
 use Rattle.rif_terms.specs.declared.change.Change.TheVariants.{Retract, RetractSlot}

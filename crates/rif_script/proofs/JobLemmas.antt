@@ -1,12 +1,11 @@
 -- Jobs from their parts: what is read of an input's document and of its script is the job, and what refuses one of the
 -- two refuses the input.
-use Rattle.std.proofs.Common.{◌≡◌, ◌∙◌, refl, sym, subst, ap, ℕ, ◌+◌, ◌≤◌, ◌<◌, ◌^◌, ◌==◌, suc, Bool, true, false, cond}
-use Rattle.std.proofs.Common.{List, [], ◌∷◌, drop, length, length-drop, arith, ◌⊎◌, inl, inr}
+use Rattle.std.proofs.Common.{◌≡◌, refl, subst, ap, ℕ, ◌+◌, ◌≤◌, ◌<◌, ◌^◌, ◌==◌, suc, Bool, true, false, cond, List, []}
+use Rattle.std.proofs.Common.{◌∷◌, drop, length, length-drop, arith, inl, inr}
 use Rattle.std.specs.Prelude.{Ok, Err, IfErr, IfOk}
 use Rattle.std.specs.Str.{IsValidUpTo}
 use Rattle.std.specs.declared.result.Result.{Result}
 use Rattle.rif_terms.specs.declared.limits.TheConstants.{MOST_INPUT_BYTES}
-use Rattle.rif_terms.specs.declared.refusal.Refusal.{Refusal}
 use Rattle.rif_terms.specs.declared.refusal.Refusal.TheVariants.{InputTooLong, NotUtf8}
 use Rattle.rif_terms.specs.declared.fault.Fault.{Fault}
 use Rattle.rif_terms.specs.declared.fault.Fault.TheVariants.{Refused, OutOfMemory}
@@ -15,7 +14,6 @@ use Rattle.rif_lex.specs.declared.token.Token.{Token}
 use Rattle.rif_lex.specs.Lexing.{Answers, lexed}
 use Rattle.prd_reader.specs.Documents.{IsRead, IsRefused as IsDocumentRefused, RefusesDocument}
 use Rattle.prd_reader.specs.Prefixes.{Prefixes}
-use Rattle.rif_script.specs.declared.job.Job.{Job}
 use Rattle.rif_script.specs.declared.script.Script.{Script}
 use Rattle.rif_script.specs.JobParts.{IsDocumentText, RefusesText}
 use Rattle.rif_script.specs.Jobs.{HasDocument, IsJob, IsScript, IsScriptRefusal, IsText, RefusesJob, document_text}

@@ -3,7 +3,6 @@ use Rattle.std.proofs.Common.{◌≡◌, ◌∙◌, sym, subst, ap, refl, ℕ, B
 use Rattle.std.proofs.Common.{Some, None, ◌⊎◌, inl, inr}
 use Rattle.std.specs.Prelude.{codes, bytes_eq, map, Ok, Err}
 use Rattle.std.specs.declared.result.Result.{Result}
-use Rattle.rif_terms.specs.declared.constant.Const.{Const}
 use Rattle.rif_terms.specs.declared.change.Change.{Change}
 use Rattle.rif_terms.specs.declared.change.Change.TheVariants.{Assert, Retract, RetractSlot, RetractObject, Modify}
 use Rattle.rif_terms.specs.declared.refusal.Refusal.{Refusal}
@@ -12,12 +11,10 @@ use Rattle.rif_lex.specs.declared.token.Kind.TheVariants.{Word}
 use Rattle.rif_lex.specs.declared.token.Token.{Token}
 use Rattle.rif_lex.specs.Lexing.{lexed}
 use Rattle.rif_lex.specs.Spelling.{Written, written}
-use Rattle.prd_reader.specs.declared.leaf.Leaf.{Leaf}
 use Rattle.prd_reader.specs.Prefixes.{Prefixes}
 use Rattle.session_states.specs.declared.item.Item.{Item}
 use Rattle.session_states.specs.declared.item.Item.TheVariants.{Change as Changing, Fire, Until, Halt, Dispose}
-use Rattle.rif_script.specs.Jobs.{IsItemForm, IsLine, IsSentForm, IsSentLine, is_client_name, is_comment, sent_leaves}
-use Rattle.rif_script.specs.Jobs.{word}
+use Rattle.rif_script.specs.Jobs.{IsItemForm, IsLine, IsSentForm, is_client_name, is_comment, sent_leaves, word}
 use Rattle.rif_script.specs.ReadingItems.{◌>>=◌, asserted_from, fact_from, given_from, is_word_kind, item_from}
 use Rattle.rif_script.specs.ReadingItems.{modified_from, name_of, number_from, retracted_from, sent_from, whole}
 use Rattle.rif_script.specs.ReadingItems.{word_text}

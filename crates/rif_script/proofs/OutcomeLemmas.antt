@@ -1,5 +1,5 @@
 -- An input is one job at most, has one refusal at most, and not both; given that of the tokens of documents.
-use Rattle.std.proofs.Common.{◌≡◌, ◌∙◌, sym, subst, ap, refl, ℕ, ◌<◌, ◌≤◌, List, length, arith, take, ◌⊎◌, inl, inr}
+use Rattle.std.proofs.Common.{◌≡◌, ◌∙◌, sym, subst, ap, ℕ, ◌<◌, ◌≤◌, List, length, arith, ◌⊎◌, inl, inr}
 use Rattle.std.specs.Prelude.{Ok, Err, IsUtf8}
 use Rattle.std.specs.Str.{IsValidUpTo}
 use Rattle.std.specs.declared.result.Result.{Result}
@@ -17,7 +17,7 @@ use Rattle.session_states.specs.declared.item.Item.{Item}
 use Rattle.rif_script.specs.declared.job.Job.{Job}
 use Rattle.rif_script.specs.declared.script.Script.{Script}
 use Rattle.rif_script.specs.Jobs.{HasDocument, HasDocumentRefusal, HasScriptRefusal, IsJob, IsRefused, IsScript}
-use Rattle.rif_script.specs.Jobs.{IsScriptRefusal, IsText, OneOutcome, document_text, first_script_line, script_lines}
+use Rattle.rif_script.specs.Jobs.{IsScriptRefusal, OneOutcome, document_text, first_script_line, script_lines}
 use Rattle.rif_script.specs.ReadingLines.{no_lines, with_lines}
 use Rattle.rif_script.proofs.ScriptReadingLemmas.{refused_again, script_again}
 

@@ -1,23 +1,20 @@
 -- Scripts: what is read is of that form, and what is of that form is read; and so with what is refused.
-use Rattle.std.proofs.Common.{◌≡◌, ◌∙◌, sym, subst, ap, refl, ℕ, ◌+◌, ◌<◌, ◌≤◌, nat_le, nat_lt, not, ◌&&◌, suc, Bool}
-use Rattle.std.proofs.Common.{true, false, cond, List, [], ◌∷◌, ◌++◌, append_assoc, append-nil, Option, Some, None}
-use Rattle.std.proofs.Common.{length, length-append, arith, ◌⊎◌, inl, inr}
-use Rattle.std.specs.Prelude.{map, Ok, Err}
+use Rattle.std.proofs.Common.{◌≡◌, ◌∙◌, sym, subst, ap, refl, ℕ, ◌+◌, ◌<◌, ◌≤◌, nat_le, nat_lt, not, ◌&&◌, true, false}
+use Rattle.std.proofs.Common.{cond, List, [], ◌∷◌, ◌++◌, append_assoc, append-nil, Some, length, length-append, arith}
+use Rattle.std.proofs.Common.{inl, inr}
+use Rattle.std.specs.Prelude.{Ok, Err}
 use Rattle.std.specs.declared.result.Result.{Result}
 use Rattle.std.proofs.lemmas.Bool.Decides.{nat_tests}
 use Rattle.rif_terms.specs.declared.limits.TheConstants.{MOST_CLIENTS, MOST_ITEMS, MOST_BUDGETS}
 use Rattle.rif_terms.specs.declared.refusal.Refusal.{Refusal}
-use Rattle.rif_terms.specs.declared.refusal.Refusal.TheVariants.{BadLine, BudgetTooLarge, TooManyItems, TooManyClients}
+use Rattle.rif_terms.specs.declared.refusal.Refusal.TheVariants.{BudgetTooLarge, TooManyItems, TooManyClients}
 use Rattle.prd_reader.specs.Prefixes.{Prefixes}
 use Rattle.prd_reader.specs.Values.{has_name, place_of, with_name}
 use Rattle.session_states.specs.declared.item.Item.{Item}
 use Rattle.rif_script.specs.declared.script.Script.{Script}
-use Rattle.rif_script.specs.Jobs.{AreLines, IsFaulty, IsLine, IsScript, IsScriptRefusal, IsWithinLimits, budget_of}
-use Rattle.rif_script.specs.Jobs.{budget_sum, names_of, numbered_items, sent_by}
-use Rattle.rif_script.specs.ReadingLines.{and_then, line_at, no_lines, script_with, with_given, with_line, with_lines}
-use Rattle.rif_script.specs.ReadingLines.{with_sent}
+use Rattle.rif_script.specs.Jobs.{IsFaulty, IsLine, IsWithinLimits, budget_of, budget_sum, names_of, numbered_items}
+use Rattle.rif_script.specs.ReadingLines.{no_lines, script_with, with_sent}
 use Rattle.rif_script.proofs.ConstLemmas.{either}
-use Rattle.rif_script.proofs.LineFormLemmas.{line_again, line_read, no_line}
 use Rattle.rif_script.proofs.NumberingLemmas.{names_after, names_are_first, numbered_from, numbers_are_final}
 
 -- the script with several items more

@@ -1,7 +1,6 @@
 -- The lines of a script one after another: what is read of them is their script, and what refuses them is its refusal.
-use Rattle.std.proofs.Common.{◌≡◌, ◌∙◌, sym, subst, ap, refl, ℕ, ◌+◌, ◌<◌, ◌≤◌, nat_lt, suc, Bool, true, false, List}
-use Rattle.std.proofs.Common.{[], ◌∷◌, ◌++◌, append_assoc, append-nil, Option, Some, None, length, length-append, arith}
-use Rattle.std.proofs.Common.{All, ◌⊎◌, inl, inr}
+use Rattle.std.proofs.Common.{◌≡◌, ◌∙◌, sym, subst, ap, refl, ℕ, ◌+◌, ◌<◌, suc, List, [], ◌∷◌, ◌++◌, append_assoc}
+use Rattle.std.proofs.Common.{append-nil, Option, Some, None, length, length-append, arith, All, ◌⊎◌, inl, inr}
 use Rattle.std.specs.Prelude.{Ok, Err}
 use Rattle.std.specs.declared.result.Result.{Result}
 use Rattle.rif_terms.specs.declared.limits.TheConstants.{MOST_CLIENTS, MOST_ITEMS, MOST_BUDGETS}
@@ -11,14 +10,13 @@ use Rattle.prd_reader.specs.Prefixes.{Prefixes}
 use Rattle.session_states.specs.declared.item.Item.{Item}
 use Rattle.rif_script.specs.declared.script.Script.{Script}
 use Rattle.rif_script.specs.Cutting.{AreOfClients}
-use Rattle.rif_script.specs.Jobs.{AreLines, IsFaulty, IsLine, IsScript, IsScriptRefusal, IsWithinLimits, budget_of}
-use Rattle.rif_script.specs.Jobs.{budget_sum, names_of, numbered_items, sent_by}
+use Rattle.rif_script.specs.Jobs.{AreLines, IsFaulty, IsLine, IsScript, IsScriptRefusal, IsWithinLimits, budget_sum}
+use Rattle.rif_script.specs.Jobs.{names_of, numbered_items, sent_by}
 use Rattle.rif_script.specs.ReadingLines.{and_then, line_at, no_lines, with_given, with_line, with_lines}
 use Rattle.rif_script.proofs.LineFormLemmas.{line_again, line_read, no_line}
 use Rattle.rif_script.proofs.NumberingLemmas.{all_of_clients, more_names, names_after}
 use Rattle.rif_script.proofs.ScriptFormLemmas.{above_is, above_isnt, after_joined, final_items, final_names, limits_err}
-use Rattle.rif_script.proofs.ScriptFormLemmas.{limits_keep, limits_of, limits_ok, names_are, script_after, script_of}
-use Rattle.rif_script.proofs.ScriptFormLemmas.{with_sent_is}
+use Rattle.rif_script.proofs.ScriptFormLemmas.{limits_keep, limits_of, limits_ok, names_are, script_of, with_sent_is}
 
 -- what one line sends
 abbrev sent_one : Option (List ℕ × Item) → List (List ℕ × Item)

@@ -1,23 +1,19 @@
 -- The leaves that are left, behind different fronts.
-use Rattle.std.proofs.Common.{◌≡◌, ◌∙◌, sym, ap, refl, ℕ, suc, ◌<◌, ◌+◌, ◌-◌, ◌≤◌, ◌==◌, Bool, true, false, List, []}
-use Rattle.std.proofs.Common.{◌∷◌, drop, get_or, length, length-drop, arith, Option, Some, None}
+use Rattle.std.proofs.Common.{◌≡◌, ◌∙◌, sym, ap, refl, ℕ, suc, ◌<◌, ◌+◌, ◌-◌, ◌≤◌, Bool, true, List, [], ◌∷◌, drop}
+use Rattle.std.proofs.Common.{get_or, length, length-drop, arith, Some}
 use Rattle.std.specs.Prelude.{map}
 use Rattle.std.proofs.Math.Seq.{drop-cons}
 use Rattle.rif_terms.specs.declared.constant.Const.{Const}
 use Rattle.rif_lex.specs.declared.token.Kind.{Kind}
-use Rattle.rif_lex.specs.declared.token.Kind.TheVariants.{Word, Curie, Local, Var, Int, Str, Iri, Open, Close}
-use Rattle.rif_lex.specs.declared.token.Kind.TheVariants.{OpenSquare, CloseSquare, Equal, Hash, HashHash, Arrow, Carets}
+use Rattle.rif_lex.specs.declared.token.Kind.TheVariants.{Word, Curie, Iri}
 use Rattle.rif_lex.specs.declared.token.Token.{Token}
 use Rattle.rif_lex.specs.Spelling.{Written, written}
 use Rattle.prd_reader.specs.declared.leaf.Keyword.TheVariants.{Prefix, External, True, False}
 use Rattle.prd_reader.specs.declared.leaf.Leaf.{Leaf}
-use Rattle.prd_reader.specs.declared.leaf.Leaf.TheVariants.{Key, LeftOut, Word as WordLeaf, Int as IntLeaf}
-use Rattle.prd_reader.specs.declared.leaf.Leaf.TheVariants.{Str as StrLeaf, Typed, Misspelled, TypeName, Iri as IriLeaf}
-use Rattle.prd_reader.specs.declared.leaf.Leaf.TheVariants.{Curie as CurieLeaf, Builtin, Local as LocalLeaf}
-use Rattle.prd_reader.specs.declared.leaf.Leaf.TheVariants.{Var as VarLeaf, Open as OpenLeaf, Close as CloseLeaf}
-use Rattle.prd_reader.specs.declared.leaf.Leaf.TheVariants.{OpenSquare as OpenSquareLeaf}
-use Rattle.prd_reader.specs.declared.leaf.Leaf.TheVariants.{CloseSquare as CloseSquareLeaf, Equal as EqualLeaf}
-use Rattle.prd_reader.specs.declared.leaf.Leaf.TheVariants.{Hash as HashLeaf, Arrow as ArrowLeaf, Carets as CaretsLeaf}
+use Rattle.prd_reader.specs.declared.leaf.Leaf.TheVariants.{Key, LeftOut, Word as WordLeaf, TypeName, Iri as IriLeaf}
+use Rattle.prd_reader.specs.declared.leaf.Leaf.TheVariants.{Open as OpenLeaf, OpenSquare as OpenSquareLeaf}
+use Rattle.prd_reader.specs.declared.leaf.Leaf.TheVariants.{CloseSquare as CloseSquareLeaf, Hash as HashLeaf}
+use Rattle.prd_reader.specs.declared.leaf.Leaf.TheVariants.{Arrow as ArrowLeaf, Carets as CaretsLeaf}
 use Rattle.prd_reader.specs.Leaves.{is_behind_carets, is_behind_external, is_behind_prefix, leaf_of, leaves_from}
 use Rattle.prd_reader.specs.Leaves.{prefixes_with}
 use Rattle.prd_reader.specs.Prefixes.{Prefixes}

@@ -3,8 +3,7 @@ use Rattle.std.proofs.Common.{◌≡◌, ◌≢◌, ◌<◌, ◌-◌, length-dro
 use Rattle.std.proofs.Common.{Bool, true, false, cond, List, [], ◌∷◌, ◌++◌, append_assoc, take, drop, length}
 use Rattle.std.proofs.Math.Seq.{take-add}
 use Rattle.std.proofs.lemmas.List.{drop-drop, length-take, take_all}
-use Rattle.rif_script.specs.Jobs.{document_text, is_separator, joined_before, lines_before, lines_behind, lines_of}
-use Rattle.rif_script.specs.Jobs.{script_lines, with_byte}
+use Rattle.rif_script.specs.Jobs.{document_text, is_separator, lines_before, lines_of, script_lines, with_byte}
 use Rattle.rif_script.specs.ReadingLines.{line_length}
 
 -- a text's lines from its first byte on, where the first line isn't that byte alone

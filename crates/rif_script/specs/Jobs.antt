@@ -11,7 +11,7 @@
 --     IsRefused bytes refusal     an input has this refusal
 --     OneOutcome                  law: an input is one of these, and has one value of it
 -- Source: the project's own (docs/FORMATS.md, "Jobs" and "Refusals").
-use Rattle.std.specs.Prelude.{◌≡◌, ◌≤◌, ◌<◌, ◌⊎◌, ℕ, ◌+◌, ◌==◌, ◌||◌, ◌&&◌, nat_le, pos, suc, Bool, true, false}
+use Rattle.std.specs.Prelude.{◌≡◌, ◌≤◌, ◌<◌, ◌⊎◌, ℕ, ◌+◌, ◌==◌, ◌||◌, ◌&&◌, nat_le, suc, Bool, true, false}
 use Rattle.std.specs.Prelude.{if◌then◌else◌, List, [], ◌∷◌, ◌++◌, Option, Some, None, Ok, Err, IsUtf8, codes, bytes_eq}
 use Rattle.std.specs.Prelude.{length, map}
 use Rattle.std.specs.List.{list_all}

@@ -2,8 +2,7 @@
 --     seen t              the leaves of the tokens that are left
 --     leaves_past ls t    the same, straight behind these leaves, of which the newest stands first
 --     Gives               what a call answers, as a view shows it, or that it answers nothing
-use Rattle.std.specs.Prelude.{◌≡◌, ◌+◌, Bool, true, false, List, [], ◌∷◌, drop, map, Option, Some, None, Ok, Err}
-use Rattle.std.specs.Prelude.{length, ℕ}
+use Rattle.std.specs.Prelude.{◌≡◌, Bool, true, false, List, ◌∷◌, drop, map, Option, Some, None, Ok, Err}
 use Rattle.std.specs.declared.result.Result.{Result}
 use Rattle.rif_lex.specs.Spelling.{Written, written}
 use Rattle.prd_reader.specs.declared.leaf.Keyword.{Keyword}

@@ -5,7 +5,7 @@
 --                           by `Forall`, and occur in a pattern of the condition
 --     is_simple_item item   an item that asserts or retracts a fact, or fires
 -- Source: the project's own (docs/FORMATS.md, "What `run` evaluates").
-use Rattle.std.specs.Prelude.{ℕ, ◌==◌, ◌&&◌, ◌||◌, not, Bool, true, false, List, [], ◌∷◌, ◌++◌, Option, Some, None}
+use Rattle.std.specs.Prelude.{ℕ, ◌==◌, ◌&&◌, ◌||◌, not, Bool, true, false, List, [], ◌∷◌, Option, Some, None}
 use Rattle.std.specs.List.{flat_map, list_all, list_any}
 use Rattle.rif_terms.specs.declared.change.Change.TheVariants.{Assert, Retract, RetractSlot, RetractObject, Modify}
 use Rattle.rif_terms.specs.declared.rule.Action.{Action}
@@ -13,7 +13,6 @@ use Rattle.rif_terms.specs.declared.rule.Action.TheVariants.{Assert as AssertAct
 use Rattle.rif_terms.specs.declared.rule.Action.TheVariants.{RetractSlot as RetractSlotAction}
 use Rattle.rif_terms.specs.declared.rule.Action.TheVariants.{RetractObject as RetractObjectAction}
 use Rattle.rif_terms.specs.declared.rule.Action.TheVariants.{Modify as ModifyAction}
-use Rattle.rif_terms.specs.declared.rule.Decl.{Decl}
 use Rattle.rif_terms.specs.declared.rule.Rule.{Rule}
 use Rattle.rif_terms.specs.declared.rule.Target.{Target}
 use Rattle.rif_terms.specs.declared.rule.Target.TheVariants.{Atom as AtomTarget, Frame as FrameTarget}

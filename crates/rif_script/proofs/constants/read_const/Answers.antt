@@ -1,5 +1,3 @@
-use Rattle.std.proofs.Common.{sym, subst, Option}
-use Rattle.rif_script.specs.SentLeaves.{Gives, with_seen}
 use Rattle.rif_script.proofs.FirstLeafLemmas.{const_first, first_seen}
 use Rattle.rif_script.proofs.constants.read_const.Goals as goal
 

@@ -1,4 +1,4 @@
-use Rattle.std.proofs.Common.{◌≡◌, ◌-◌, ◌∙◌, sym, suc, arith, length, List}
+use Rattle.std.proofs.Common.{◌-◌, ◌∙◌, sym, arith}
 use Rattle.std.proofs.lemmas.Result.{err_from_is_err_and}
 use Rattle.rif_script.specs.SentLeaves.{seen, with_seen}
 use Rattle.rif_script.proofs.ConstListLemmas.{close_seen, consts_closed, consts_more, consts_out, consts_refused}

@@ -1,4 +1,4 @@
-use Rattle.std.proofs.Common.{◌≡◌, ◌∙◌, ap, sym, subst, IsTrue, ℕ, List, Bool, true, false}
+use Rattle.std.proofs.Common.{◌∙◌, ap, List}
 use Rattle.prd_reader.specs.declared.leaf.Leaf.{Leaf}
 use Rattle.rif_script.specs.ReadingItems.{whole}
 use Rattle.rif_script.specs.SentLeaves.{seen}

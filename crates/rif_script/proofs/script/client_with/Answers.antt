@@ -1,5 +1,4 @@
-use Rattle.std.proofs.Common.{ℕ, List, [], ◌∷◌, ◌++◌, ◌∙◌, ap, subst}
-use Rattle.std.specs.Prelude.{length}
+use Rattle.std.proofs.Common.{ℕ, List, [], ◌∷◌, ◌++◌, ◌∙◌, ap}
 use Rattle.prd_reader.specs.Values.{place_of}
 use Rattle.rif_script.proofs.ClientLemmas.{known_client, new_client, one_too_many}
 use Rattle.rif_script.proofs.script.client_with.Goals as goal

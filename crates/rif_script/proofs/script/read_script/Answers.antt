@@ -1,4 +1,4 @@
-use Rattle.std.proofs.Common.{◌∙◌, sym, subst, arith}
+use Rattle.std.proofs.Common.{◌∙◌, arith}
 use Rattle.std.proofs.lemmas.Result.{err_from_is_err_and}
 use Rattle.rif_script.proofs.ClientLemmas.{less_is_left, line_ends, line_goes_on, not_empty}
 use Rattle.rif_script.proofs.script.read_script.Goals as goal

@@ -1,7 +1,5 @@
-use Rattle.std.proofs.Common.{IsTrue, nat_eq, length}
 use Rattle.std.proofs.lemmas.Bool.Decides.{nat_tests}
-use Rattle.std.proofs.Common.{◌≡◌, arith, List, []}
-use Rattle.rif_script.specs.SentLeaves.{seen}
+use Rattle.std.proofs.Common.{arith}
 use Rattle.rif_script.proofs.SentLeafLemmas.{all_read, none_left}
 use Rattle.rif_script.proofs.sent_tokens.SentTokens.is_empty.Goals as goal
 
