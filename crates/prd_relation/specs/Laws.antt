@@ -1,6 +1,6 @@
--- What the words of histories and of the choice promise: the statements of the laws in src/laws.rt.
+-- What the words of histories, of the choice and of runs promise: the statements of the laws in src/laws.rt.
 -- Source: RIF-PRD, "Operational semantics of a production rule system" and "Conflict resolution".
-use Rattle.std.specs.Prelude.{◌≡◌, ◌↔◌, ℕ, Bool, true, false, List, [], ◌∷◌, Some, None}
+use Rattle.std.specs.Prelude.{◌≡◌, ◌≢◌, ◌↔◌, ℕ, Bool, true, false, List, [], ◌∷◌, Some, None}
 use Rattle.rif_terms.specs.declared.fact.Fact.{Fact}
 use Rattle.rif_terms.specs.declared.instance.Instance.{Instance}
 use Rattle.rif_terms.specs.declared.rule.Doc.{Doc}
@@ -9,9 +9,10 @@ use Rattle.rif_terms.specs.Sets.{has, IsSet}
 use Rattle.prd_relation.specs.declared.moment.Moment.{Moment}
 use Rattle.session_states.specs.declared.item.Entry.{Entry}
 use Rattle.session_states.specs.declared.turn.Act.TheVariants.{Fired}
+use Rattle.session_states.specs.Batches.{IsLawful}
 use Rattle.prd_relation.specs.Choice.{chosen_instance, highest_instances, is_lower, is_older, unrefracted_instances}
 use Rattle.prd_relation.specs.History.{newest_conflict_set, age_of, is_refracted, IsAge, IsRefracted}
-use Rattle.prd_relation.specs.Runs.{AreLawfulFrom, is_disposing}
+use Rattle.prd_relation.specs.Runs.{AreLawful, AreLawfulFrom, IsReplay, is_disposing}
 use Rattle.prd_relation.specs.Turns.{Session, session_after, session_with, turn_of}
 
 -- the age is a number of which the sentence is true, and the only one
@@ -54,3 +55,19 @@ AreFiringsStates = (doc : Doc) (session : Session) (batch : List Entry) → (tur
 abbrev pub DisposesEnd : Type 0
 DisposesEnd = (doc : Doc) (session : Session) (fired disposed : Bool) (batch : List Entry) (batches : List (List Entry))
     → AreLawfulFrom doc session fired disposed (batch ∷ batches) → is_disposing batch ≡ true → batches ≡ []
+
+-- two replays of the same batches are the same list of batches, so their turns are the same too
+abbrev pub IsReplayOne : Type 0
+IsReplayOne = (doc : Doc) (given all other : List (List Entry))
+    → IsReplay doc given all → IsReplay doc given other → all ≡ other
+
+-- after a batch that disposed or not: each batch is lawful, none is empty, and none follows one that disposes
+abbrev pub AreGivenLawfully : Bool → List (List Entry) → Type 0
+AreGivenLawfully disposed [] = Unit {0}
+AreGivenLawfully disposed (batch ∷ batches) =
+    IsLawful batch × (batch ≢ []) × (disposed ≡ false) × AreGivenLawfully (is_disposing batch) batches
+
+-- the batches of a replay are those of a run, where they are given so
+abbrev pub AreReplaysLawful : Type 0
+AreReplaysLawful = (doc : Doc) (given all : List (List Entry))
+    → AreGivenLawfully false given → IsReplay doc given all → AreLawful doc all

@@ -3,8 +3,9 @@
 --     session_at_end doc s bs    the session after them
 --     run_of doc bs              the turns of some batches from an idle session with no facts
 --     AreLawful doc bs           the batches may be those of a run
---     IsReplay doc given all     all are the given batches, none of them empty and none after one that disposes, with an
---                                empty batch after each firing
+--     IsReplay doc given all     all are the given batches in their order, with an empty batch after each firing
+-- IsReplay says of the given batches neither that none is empty nor that none follows one that disposes: both come from
+-- the cut of a script (docs/PROFILE.md, "Replay").
 -- Source: RIF-PRD, "Operational semantics of a production rule system"; that batches of clients stand between
 -- firings is the project's own (docs/PROFILE.md, "Turns").
 use Rattle.std.specs.Prelude.{◌≡◌, ℕ, Bool, true, false, List, [], ◌∷◌, length}
