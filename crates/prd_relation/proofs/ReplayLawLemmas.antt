@@ -1,5 +1,6 @@
 -- Laws of replays.
-use Rattle.std.proofs.Common.{◌≡◌, ◌≢◌, ◌∙◌, Bool, true, false, List, [], ◌∷◌, Some, None, refl, ap, sym, subst, arith}
+use Rattle.std.proofs.Common.{◌≡◌, ◌≢◌, ◌∙◌, Bool, true, false, List, [], ◌∷◌, Some, None, refl, ap, sym, subst}
+use Rattle.std.proofs.Common.{arith}
 use Rattle.std.specs.Option.{option_map_or}
 use Rattle.std.specs.declared.option.Option.{Option}
 use Rattle.rif_terms.specs.declared.rule.Doc.{Doc}
@@ -9,7 +10,8 @@ use Rattle.session_states.specs.declared.turn.Act.TheVariants.{Idle, Halted, Dis
 use Rattle.session_states.specs.declared.turn.Act.TheVariants.{StoppedLimit, Resting}
 use Rattle.session_states.specs.Batches.{IsLawful}
 use Rattle.prd_relation.specs.Laws.{IsReplayOne, AreGivenLawfully, AreReplaysLawful}
-use Rattle.prd_relation.specs.Runs.{AreLawfulFrom, EmptyOnlyIfFired, IsReplayFrom, fires, is_disposed, is_disposing, is_fired}
+use Rattle.prd_relation.specs.Runs.{AreLawfulFrom, EmptyOnlyIfFired, IsReplayFrom, fires, is_disposed, is_disposing}
+use Rattle.prd_relation.specs.Runs.{is_fired}
 use Rattle.prd_relation.specs.Turns.{Session, ending_act, first_session, outcome_after, session_after, session_with}
 
 -- ---- one replay
@@ -80,19 +82,25 @@ lawful_from : (doc : Doc) (s : Session) (fired disposed : Bool) (given all : Lis
     → AreLawfulFrom doc s fired disposed all
 lawful_from doc s true disposed given [] lawful goes_on replay = absurd replay
 lawful_from doc s true disposed given (batch ∷ all) lawful goes_on replay =
-    let none : is_disposing batch ≡ false = ap is_disposing replay.0 in
-    (subst IsLawful (sym replay.0) empty_lawful, goes_on refl, empty_after_firing batch,
-    lawful_from doc (session_after doc s batch) (fires doc s batch) (is_disposing batch) given all
-    (subst (λ (d : Bool). AreGivenLawfully d given) (goes_on refl ∙ sym none) lawful) (λ fired. none) replay.1)
+    let none : is_disposing batch ≡ false = ap is_disposing replay.0 in (
+      subst IsLawful (sym replay.0) empty_lawful,
+      goes_on refl,
+      empty_after_firing batch,
+      lawful_from doc (session_after doc s batch) (fires doc s batch) (is_disposing batch) given all
+          (subst (λ (d : Bool). AreGivenLawfully d given) (goes_on refl ∙ sym none) lawful) (λ fired. none) replay.1,
+    )
 lawful_from doc s false disposed [] [] lawful goes_on replay = refl
 lawful_from doc s false disposed [] (batch ∷ all) lawful goes_on replay = absurd replay
 lawful_from doc s false disposed (next ∷ given) [] lawful goes_on replay = absurd replay
 lawful_from doc s false disposed (next ∷ given) (batch ∷ all) lawful goes_on replay =
-    let same = sym replay.0 in
-    (subst IsLawful same lawful.0, lawful.2, some_given batch (subst (λ (b : List Entry). b ≢ []) same lawful.1),
-    lawful_from doc (session_after doc s batch) (fires doc s batch) (is_disposing batch) given all
-    (subst (λ (b : List Entry). AreGivenLawfully (is_disposing b) given) same lawful.3)
-    (λ fired. firing_disposes_not doc s batch fired) replay.1)
+    let same = sym replay.0 in (
+      subst IsLawful same lawful.0,
+      lawful.2,
+      some_given batch (subst (λ (b : List Entry). b ≢ []) same lawful.1),
+      lawful_from doc (session_after doc s batch) (fires doc s batch) (is_disposing batch) given all
+          (subst (λ (b : List Entry). AreGivenLawfully (is_disposing b) given) same lawful.3)
+          (λ fired. firing_disposes_not doc s batch fired) replay.1,
+    )
 
 pub replays_lawful : AreReplaysLawful
 replays_lawful doc given all lawful replay =

@@ -26,7 +26,8 @@ IsRefractionSaid = (moments : List Moment) (i : Instance) → (is_refracted mome
 
 -- what isn't in the newest conflict set has age 0
 abbrev pub AreOthersUnaged : Type 0
-AreOthersUnaged = (moments : List Moment) (i : Instance) → has instance_cmp (newest_conflict_set moments) i ≡ false → age_of moments i ≡ 0
+AreOthersUnaged = (moments : List Moment) (i : Instance)
+    → has instance_cmp (newest_conflict_set moments) i ≡ false → age_of moments i ≡ 0
 
 -- what is chosen is in the newest conflict set and isn't refracted
 abbrev pub ChoosesUnrefracted : Type 0
@@ -53,7 +54,8 @@ AreFiringsStates = (doc : Doc) (session : Session) (batch : List Entry) → (tur
 
 -- no batch of a run follows one that ends in a Dispose
 abbrev pub DisposesEnd : Type 0
-DisposesEnd = (doc : Doc) (session : Session) (fired disposed : Bool) (batch : List Entry) (batches : List (List Entry))
+DisposesEnd = (doc : Doc) (session : Session) (fired disposed : Bool)
+    (batch : List Entry) (batches : List (List Entry))
     → AreLawfulFrom doc session fired disposed (batch ∷ batches) → is_disposing batch ≡ true → batches ≡ []
 
 -- two replays of the same batches are the same list of batches, so their turns are the same too
