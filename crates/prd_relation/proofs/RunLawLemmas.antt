@@ -1,6 +1,5 @@
 -- Laws of turns and runs.
-use Rattle.std.proofs.Common.{◌≡◌, ◌∙◌, ℕ, zero, suc, Bool, true, false, true≢false, List, [], ◌∷◌, Some, None, refl}
-use Rattle.std.proofs.Common.{sym}
+use Rattle.std.proofs.Common.{◌≡◌, ◌∙◌, ℕ, zero, suc, true≢false, List, [], ◌∷◌, Some, None, refl, sym}
 use Rattle.std.specs.Option.{option_and_then}
 use Rattle.std.specs.declared.option.Option.{Option}
 use Rattle.rif_terms.specs.declared.fact.Fact.{Fact}
@@ -15,7 +14,6 @@ use Rattle.session_states.specs.declared.turn.Act.{Act}
 use Rattle.session_states.specs.declared.turn.Act.TheVariants.{Fired}
 use Rattle.prd_relation.specs.History.{Snapshot}
 use Rattle.prd_relation.specs.Laws.{AreFiringsStates, DisposesEnd}
-use Rattle.prd_relation.specs.Runs.{is_disposing}
 use Rattle.prd_relation.specs.Turns.{Outcome, Session, ending_act, ending_item, outcome_after, outcome_in}
 use Rattle.prd_relation.specs.Turns.{session_with, with_budget}
 

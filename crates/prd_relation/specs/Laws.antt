@@ -5,7 +5,7 @@ use Rattle.rif_terms.specs.declared.fact.Fact.{Fact}
 use Rattle.rif_terms.specs.declared.instance.Instance.{Instance}
 use Rattle.rif_terms.specs.declared.rule.Doc.{Doc}
 use Rattle.rif_terms.specs.InstanceOrder.{instance_cmp}
-use Rattle.rif_terms.specs.Sets.{has, IsSet}
+use Rattle.rif_terms.specs.Sets.{has}
 use Rattle.prd_relation.specs.declared.moment.Moment.{Moment}
 use Rattle.session_states.specs.declared.item.Entry.{Entry}
 use Rattle.session_states.specs.declared.turn.Act.TheVariants.{Fired}

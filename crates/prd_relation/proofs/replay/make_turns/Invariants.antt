@@ -1,4 +1,4 @@
-use Rattle.std.proofs.Common.{ℕ, ◌+◌, cond, false, List, ◌∷◌}
+use Rattle.std.proofs.Common.{◌+◌, cond, false, List, ◌∷◌}
 use Rattle.session_states.specs.declared.item.Entry.{Entry}
 use Rattle.prd_relation.specs.Session.{budget_of}
 use Rattle.prd_relation.specs.Replay.{IsReplayed}
