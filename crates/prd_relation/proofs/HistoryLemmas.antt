@@ -1,6 +1,6 @@
 -- Ages and refraction are what their sentences say.
-use Rattle.std.proofs.Common.{◌≡◌, ◌∙◌, ℕ, suc, Bool, true, false, ◌&&◌, ◌||◌, ◌⊎◌, if◌then◌else◌, List, [], ◌∷◌, ◌++◌}
-use Rattle.std.proofs.Common.{length, refl, ap, inl, inr, arith}
+use Rattle.std.proofs.Common.{◌≡◌, ◌∙◌, ℕ, suc, Bool, true, false, ◌&&◌, ◌||◌, ◌⊎◌, if◌then◌else◌, List, [], ◌∷◌}
+use Rattle.std.proofs.Common.{◌++◌, length, refl, ap, inl, inr, arith}
 use Rattle.std.specs.List.{AllByRecursion}
 use Rattle.rif_terms.specs.declared.instance.Instance.{Instance}
 use Rattle.rif_terms.specs.InstanceOrder.{instance_cmp}
@@ -112,7 +112,8 @@ ended : (earlier : List Moment) (i : Instance) → Interrupts earlier i → age_
 ended [] i ends = refl
 ended (m ∷ ms) i ends = ap (λ (b : Bool). if b then suc (age_of ms i) else 0) ends
 
-age_at : (recent earlier : List Moment) (i : Instance) → AllByRecursion (λ moment. has_instance moment i ≡ true) recent
+age_at : (recent earlier : List Moment) (i : Instance)
+    → AllByRecursion (λ moment. has_instance moment i ≡ true) recent
     → Interrupts earlier i → age_of (recent ++ earlier) i ≡ length recent
 age_at [] earlier i all ends = ended earlier i ends
 age_at (m ∷ recent) earlier i all ends =

@@ -3,6 +3,7 @@ pub mod ChosenLemmas
 pub mod GatheringLemmas
 pub mod HistoryLemmas
 pub mod PlainLemmas
+pub mod ReplayLawLemmas
 pub mod ReplayLemmas
 pub mod RunLawLemmas
 pub mod TurnLemmas

@@ -40,8 +40,8 @@ next doc given before after fired now batch old new plain plainer replayed turn 
   goes_on = λ more rest. subst (λ (bs : List (List Entry)). IsReplay doc given bs)
       (sym (append_assoc replayed.done (batch ∷ []) more))
       (replayed.goes_on (batch ∷ more) (comes more
-      (subst (λ (f : Bool). IsReplayFrom doc (session_after doc (session_at_end doc first_session replayed.done) batch)
-      f after more) turn.fired_is
+      (subst (λ (f : Bool). IsReplayFrom doc
+      (session_after doc (session_at_end doc first_session replayed.done) batch) f after more) turn.fired_is
       (subst (λ (s : Session). IsReplayFrom doc s now after more) (end_more doc first_session replayed.done batch)
       rest))));
 }
@@ -67,7 +67,8 @@ next_empty doc given left now old new plain plainer replayed turn =
 -- nothing is done yet
 pub none_replayed : (doc : Doc) (given : List (List Entry)) (plain : PlainSession) → Shows doc plain first_session
     → IsReplayed doc given given false [] plain
-none_replayed doc given plain shown = record { done = []; turns_are = refl; shows = shown; goes_on = λ more rest. rest }
+none_replayed doc given plain shown =
+    record { done = []; turns_are = refl; shows = shown; goes_on = λ more rest. rest }
 
 -- all is done
 pub all_replayed : (doc : Doc) (given : List (List Entry)) (turns : List Turn) (plain : PlainSession)

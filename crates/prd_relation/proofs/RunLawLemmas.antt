@@ -1,5 +1,5 @@
 -- Laws of turns and runs.
-use Rattle.std.proofs.Common.{◌≡◌, ◌∙◌, ℕ, zero, suc, Bool, true, false, true≢false, List, [], ◌∷◌, Some, None, refl, sym}
+use Rattle.std.proofs.Common.{◌≡◌, ◌∙◌, ℕ, zero, suc, true≢false, List, [], ◌∷◌, Some, None, refl, sym}
 use Rattle.std.specs.Option.{option_and_then}
 use Rattle.std.specs.declared.option.Option.{Option}
 use Rattle.rif_terms.specs.declared.fact.Fact.{Fact}
@@ -14,20 +14,22 @@ use Rattle.session_states.specs.declared.turn.Act.{Act}
 use Rattle.session_states.specs.declared.turn.Act.TheVariants.{Fired}
 use Rattle.prd_relation.specs.History.{Snapshot}
 use Rattle.prd_relation.specs.Laws.{AreFiringsStates, DisposesEnd}
-use Rattle.prd_relation.specs.Runs.{is_disposing}
-use Rattle.prd_relation.specs.Turns.{Outcome, Session, ending_act, ending_item, outcome_after, outcome_in, session_with, with_budget}
+use Rattle.prd_relation.specs.Turns.{Outcome, Session, ending_act, ending_item, outcome_after, outcome_in}
+use Rattle.prd_relation.specs.Turns.{session_with, with_budget}
 
 -- a turn that fires leads to one more state, which its pick led to
 abbrev LeadsOn : Outcome → List Snapshot → Type 0
 LeadsOn outcome history = Some outcome.act ≡ Some Fired
-    → (facts : List Fact) × (i : Instance) × (outcome.session.history ≡ record { facts = facts; pick = Some i } ∷ history)
+    → (facts : List Fact) × (i : Instance)
+    × (outcome.session.history ≡ record { facts = facts; pick = Some i } ∷ history)
 
 budget_leads : (doc : Doc) (s : Session) (next : ℕ → State) (left : ℕ) (i : Instance)
     → LeadsOn (with_budget doc s next left i) s.history
 budget_leads doc s next zero i fired = absurd (cc fired)
 budget_leads doc s next (suc left) i fired = (_, i, refl)
 
-act_leads : (doc : Doc) (s : Session) (state : State) (choice : Option Instance) → LeadsOn (outcome_in doc s state choice) s.history
+act_leads : (doc : Doc) (s : Session) (state : State) (choice : Option Instance)
+    → LeadsOn (outcome_in doc s state choice) s.history
 act_leads doc s Idle choice fired = absurd (cc fired)
 act_leads doc s (Firing left) (Some i) fired = budget_leads doc s Firing left i fired
 act_leads doc s (Firing left) None fired = absurd (cc fired)
@@ -53,7 +55,8 @@ ending_leads doc s batch (Some act) is fired = absurd (entry_fires_not _ (is ∙
 ending_leads doc s batch None is fired = act_leads doc s s.state _ fired
 
 pub firings_lead_on : AreFiringsStates
-firings_lead_on doc session batch fired = ending_leads doc (session_with session batch) batch (ending_act batch) refl fired
+firings_lead_on doc session batch fired =
+    ending_leads doc (session_with session batch) batch (ending_act batch) refl fired
 
 pub disposes_end : DisposesEnd
 disposes_end doc session fired disposed batch [] lawful disposing = refl

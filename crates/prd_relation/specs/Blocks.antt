@@ -13,10 +13,14 @@ use Rattle.rif_terms.specs.declared.constant.Const.TheVariants.{Fresh}
 use Rattle.rif_terms.specs.declared.fact.Fact.{Fact}
 use Rattle.rif_terms.specs.declared.fact.Fact.TheVariants.{Atom, Frame, Member}
 use Rattle.rif_terms.specs.declared.change.Change.{Change}
-use Rattle.rif_terms.specs.declared.change.Change.TheVariants.{Assert as AssertChange, Retract as RetractChange, RetractSlot as RetractSlotChange, RetractObject as RetractObjectChange, Modify as ModifyChange}
+use Rattle.rif_terms.specs.declared.change.Change.TheVariants.{Assert as AssertChange, Retract as RetractChange}
+use Rattle.rif_terms.specs.declared.change.Change.TheVariants.{RetractSlot as RetractSlotChange}
+use Rattle.rif_terms.specs.declared.change.Change.TheVariants.{RetractObject as RetractObjectChange}
+use Rattle.rif_terms.specs.declared.change.Change.TheVariants.{Modify as ModifyChange}
 use Rattle.rif_terms.specs.declared.tree.Term.{Term}
 use Rattle.rif_terms.specs.declared.rule.Target.{Target}
-use Rattle.rif_terms.specs.declared.rule.Target.TheVariants.{Atom as AtomTarget, Frame as FrameTarget, Member as MemberTarget}
+use Rattle.rif_terms.specs.declared.rule.Target.TheVariants.{Atom as AtomTarget, Frame as FrameTarget}
+use Rattle.rif_terms.specs.declared.rule.Target.TheVariants.{Member as MemberTarget}
 use Rattle.rif_terms.specs.declared.rule.Action.{Action}
 use Rattle.rif_terms.specs.declared.rule.Action.TheVariants.{Assert, Retract, RetractSlot, RetractObject, Modify}
 use Rattle.rif_terms.specs.declared.rule.Decl.{Decl}
@@ -60,7 +64,9 @@ after_decls w (decl ∷ decls) scope = option_and_then (after_decls w decls) (af
 -- one change for each pair of a slot and its value
 abbrev pub slot_changes : (Const → Const → Const → Change) → Row → Term → List (Term × Term) → Option (List Change)
 slot_changes change row object pairs =
-    all_of (map (λ pair. option_and_then (λ o. of_both (value_of row pair.0) (value_of row pair.1) (λ s v. Some (change o s v))) (value_of row object)) pairs)
+    all_of (map (λ pair. option_and_then
+    (λ o. of_both (value_of row pair.0) (value_of row pair.1) (λ s v. Some (change o s v))) (value_of row object))
+    pairs)
 
 -- one change for each fact that a target stands for
 abbrev pub target_changes : (Fact → Change) → Row → Target → Option (List Change)
@@ -83,7 +89,10 @@ changes_of row actions = option_map (flat_map (λ changes. changes)) (all_of (ma
 -- a block is void where a term that it needs has no value
 abbrev pub block_in : List Action → Option Scope → Block
 block_in actions None = Void
-block_in actions (Some scope) = elim (changes_of scope.row actions) [ None ↦ Void | Some changes ↦ Changes changes scope.made ]
+block_in actions (Some scope) = elim (changes_of scope.row actions) [
+  | None ↦ Void
+  | Some changes ↦ Changes changes scope.made
+]
 
 abbrev pub block_of : Rule → Row → List Fact → ℕ → Block
 block_of rule row w made = block_in rule.actions (after_decls w rule.decls (record { row = row; made = made }))

@@ -6,7 +6,7 @@
 --     allowed_instances doc ms        the three steps on the newest conflict set
 --     chosen_instance doc ms          the least of the allowed ones
 -- Source: RIF-PRD, "Conflict resolution", rif:forwardChaining; the tie break is docs/PROFILE.md, "Tie break".
-use Rattle.std.specs.Prelude.{ℕ, zero, suc, ℤ, pos, Bool, not, List, filter, slice_get, nat_lt, Some, None}
+use Rattle.std.specs.Prelude.{ℕ, zero, suc, ℤ, pos, Bool, not, List, filter, slice_get, nat_lt, None}
 use Rattle.std.specs.List.{list_any}
 use Rattle.std.specs.Option.{option_map_or}
 use Rattle.std.specs.Ordering.{int_cmp, is_lt}

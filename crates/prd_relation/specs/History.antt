@@ -9,7 +9,8 @@
 --     IsRefracted ms i            that the instance is refracted, without the recursion
 -- Source: RIF-PRD, "Conflict resolution", rif:forwardChaining: refraction and recency. Which states count is the
 -- project's own (docs/PROFILE.md, "States that count").
-use Rattle.std.specs.Prelude.{◌≡◌, ℕ, suc, Bool, true, false, ◌&&◌, ◌||◌, List, [], ◌∷◌, ◌++◌, map, length, Some, None, IfSome, if◌then◌else◌}
+use Rattle.std.specs.Prelude.{◌≡◌, ℕ, suc, Bool, true, false, ◌&&◌, ◌||◌, List, [], ◌∷◌, ◌++◌, map, length, Some}
+use Rattle.std.specs.Prelude.{None, IfSome, if◌then◌else◌}
 use Rattle.std.specs.List.{AllByRecursion}
 use Rattle.std.specs.Ordering.{eq_by_cmp}
 use Rattle.std.specs.declared.option.Option.{Option}
@@ -35,7 +36,8 @@ newest_facts [] = []
 newest_facts (snapshot ∷ history) = snapshot.facts
 
 abbrev pub moments_of : Doc → List Snapshot → List Moment
-moments_of doc history = map (λ snapshot. record { conflict_set = conflict_set doc snapshot.facts; pick = snapshot.pick }) history
+moments_of doc history =
+    map (λ snapshot. record { conflict_set = conflict_set doc snapshot.facts; pick = snapshot.pick }) history
 
 abbrev pub newest_conflict_set : List Moment → List Instance
 newest_conflict_set [] = []
@@ -60,7 +62,8 @@ age_of (newest ∷ earlier) i = if has_instance newest i then suc (age_of earlie
 abbrev pub is_refracted : List Moment → Instance → Bool
 is_refracted [] i = false
 is_refracted (newest ∷ earlier) i =
-    has_instance newest i && ((has instance_cmp (newest_conflict_set earlier) i && is_pick newest.pick i) || is_refracted earlier i)
+    has_instance newest i
+    && ((has instance_cmp (newest_conflict_set earlier) i && is_pick newest.pick i) || is_refracted earlier i)
 
 -- the conflict set of the newest of these states hasn't the instance
 abbrev pub Interrupts : List Moment → Instance → Type 0
@@ -92,4 +95,5 @@ abbrev pub IsHistory : Doc → List Snapshot → Type 0
 IsHistory doc [] = ⊥
 IsHistory doc (first ∷ []) = (first.facts ≡ []) × (first.pick ≡ None)
 IsHistory doc (newest ∷ before ∷ earlier) =
-    IsFacts newest.facts × IfSome newest.pick (λ i. has instance_cmp (conflict_set doc before.facts) i ≡ true) × IsHistory doc (before ∷ earlier)
+    IsFacts newest.facts × IfSome newest.pick (λ i. has instance_cmp (conflict_set doc before.facts) i ≡ true)
+    × IsHistory doc (before ∷ earlier)

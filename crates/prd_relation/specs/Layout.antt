@@ -3,7 +3,7 @@
 --     next_mark pick ms i           what it says after one more state whose conflict set has the instance
 --     candidate_of doc ms i         an instance with what the choice asks of it
 -- Source: the project's own.
-use Rattle.std.specs.Prelude.{ℕ, suc, Bool, ◌&&◌, ◌||◌, List, nat_lt}
+use Rattle.std.specs.Prelude.{suc, Bool, ◌&&◌, ◌||◌, List, nat_lt}
 use Rattle.std.specs.Ordering.{int_cmp, is_lt}
 use Rattle.std.specs.declared.option.Option.{Option}
 use Rattle.rif_terms.specs.declared.instance.Instance.{Instance}

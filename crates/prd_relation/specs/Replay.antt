@@ -1,6 +1,7 @@
 -- What a replay has done so far. No public clause cites this module.
---     IsReplayed doc given left fired turns plain     of the given batches these are left, the last turn fired or not,
---                                                     and the turns and the session are those of some batches so far
+--     IsReplayed doc given left fired turns plain
+--         of the given batches these are left, the last turn fired or not, and the turns and the session are those of
+--         some batches so far
 use Rattle.std.specs.Prelude.{◌≡◌, Bool, List, [], ◌∷◌, ◌++◌}
 use Rattle.rif_terms.specs.declared.rule.Doc.{Doc}
 use Rattle.session_states.specs.declared.item.Entry.{Entry}
@@ -10,14 +11,17 @@ use Rattle.prd_relation.specs.Session.{Shows}
 use Rattle.prd_relation.specs.Turns.{Session, first_session, turn_of, session_after}
 use Rattle.prd_relation.specs.Runs.{run_of, session_at_end, fires, IsReplay, IsReplayFrom}
 
-pub record IsReplayed (doc : Doc) (given left : List (List Entry)) (fired : Bool) (turns : List Turn) (plain : PlainSession) : Type 0 where
+pub record IsReplayed (doc : Doc) (given left : List (List Entry)) (fired : Bool) (turns : List Turn)
+    (plain : PlainSession) : Type 0 where
   pub done : List (List Entry)
   pub turns_are : turns ≡ run_of doc done
   pub shows : Shows doc plain (session_at_end doc first_session done)
-  pub goes_on : (more : List (List Entry)) → IsReplayFrom doc (session_at_end doc first_session done) fired left more → IsReplay doc given (done ++ more)
+  pub goes_on : (more : List (List Entry))
+      → IsReplayFrom doc (session_at_end doc first_session done) fired left more → IsReplay doc given (done ++ more)
 
 -- one more turn, from the session that s was
-pub record IsNextTurn (doc : Doc) (s : Session) (batch : List Entry) (fired : Bool) (old new : List Turn) (plain : PlainSession) : Type 0 where
+pub record IsNextTurn (doc : Doc) (s : Session) (batch : List Entry) (fired : Bool) (old new : List Turn)
+    (plain : PlainSession) : Type 0 where
   pub turns : new ≡ old ++ turn_of doc s batch ∷ []
   pub shows : Shows doc plain (session_after doc s batch)
   pub fired_is : fired ≡ fires doc s batch

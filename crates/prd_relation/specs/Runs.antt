@@ -3,8 +3,9 @@
 --     session_at_end doc s bs    the session after them
 --     run_of doc bs              the turns of some batches from an idle session with no facts
 --     AreLawful doc bs           the batches may be those of a run
---     IsReplay doc given all     all are the given batches, none of them empty and none after one that disposes, with an
---                                empty batch after each firing
+--     IsReplay doc given all     all are the given batches in their order, with an empty batch after each firing
+-- IsReplay says of the given batches neither that none is empty nor that none follows one that disposes: both come
+-- from the cut of a script (docs/PROFILE.md, "Replay").
 -- Source: RIF-PRD, "Operational semantics of a production rule system"; that batches of clients stand between
 -- firings is the project's own (docs/PROFILE.md, "Turns").
 use Rattle.std.specs.Prelude.{◌≡◌, ℕ, Bool, true, false, List, [], ◌∷◌, length}
@@ -12,7 +13,8 @@ use Rattle.std.specs.Option.{option_map_or}
 use Rattle.rif_terms.specs.declared.rule.Doc.{Doc}
 use Rattle.session_states.specs.declared.item.Entry.{Entry}
 use Rattle.session_states.specs.declared.turn.Act.{Act}
-use Rattle.session_states.specs.declared.turn.Act.TheVariants.{Idle as IdleAct, Halted, Disposed as DisposedAct, Fired, StoppedQuiet, StoppedLimit, Resting}
+use Rattle.session_states.specs.declared.turn.Act.TheVariants.{Idle as IdleAct, Halted, Disposed as DisposedAct}
+use Rattle.session_states.specs.declared.turn.Act.TheVariants.{Fired, StoppedQuiet, StoppedLimit, Resting}
 use Rattle.session_states.specs.declared.turn.Turn.{Turn}
 use Rattle.session_states.specs.Batches.{IsLawful}
 use Rattle.prd_relation.specs.History.{newest_facts}
@@ -20,7 +22,8 @@ use Rattle.prd_relation.specs.Turns.{Session, ending_act, first_session, outcome
 
 abbrev pub turns_from : Doc → Session → List (List Entry) → List Turn
 turns_from doc session [] = []
-turns_from doc session (batch ∷ batches) = turn_of doc session batch ∷ turns_from doc (session_after doc session batch) batches
+turns_from doc session (batch ∷ batches) =
+    turn_of doc session batch ∷ turns_from doc (session_after doc session batch) batches
 
 abbrev pub session_at_end : Doc → Session → List (List Entry) → Session
 session_at_end doc session [] = session

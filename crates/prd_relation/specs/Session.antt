@@ -1,5 +1,6 @@
 -- How the plain program's session stands for a session of the definitions. No public clause cites this module.
---     Shows doc plain session     the plain session has the session's state, newest facts, moments and number of objects
+--     Shows doc plain session     the plain session has the session's state, newest facts, moments and number of
+--                                 objects
 --     Settles o outcome           what was settled is an outcome's act, pick and effect
 use Rattle.std.specs.Prelude.{◌≡◌, ℕ, ◌<◌}
 use Rattle.rif_terms.specs.declared.rule.Doc.{Doc}

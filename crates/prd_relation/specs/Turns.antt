@@ -21,7 +21,8 @@ use Rattle.session_states.specs.declared.item.Entry.{Entry}
 use Rattle.session_states.specs.declared.state.State.{State}
 use Rattle.session_states.specs.declared.state.State.TheVariants.{Idle, Firing, UntilHalt, Disposed}
 use Rattle.session_states.specs.declared.turn.Act.{Act}
-use Rattle.session_states.specs.declared.turn.Act.TheVariants.{Idle as IdleAct, Halted, Disposed as DisposedAct, Fired, StoppedQuiet, StoppedLimit, Resting}
+use Rattle.session_states.specs.declared.turn.Act.TheVariants.{Idle as IdleAct, Halted, Disposed as DisposedAct}
+use Rattle.session_states.specs.declared.turn.Act.TheVariants.{Fired, StoppedQuiet, StoppedLimit, Resting}
 use Rattle.session_states.specs.declared.turn.Effect.{Effect}
 use Rattle.session_states.specs.declared.turn.Effect.TheVariants.{None as NoEffect, Void, Net}
 use Rattle.session_states.specs.declared.turn.Turn.{Turn}
@@ -57,7 +58,8 @@ state_with state batch = fold (λ s entry. state_after s entry.item) state batch
 -- some changes lead to one more state, and none to no further one
 abbrev pub history_with : List Snapshot → List Change → List Snapshot
 history_with history [] = history
-history_with history (change ∷ changes) = record { facts = facts_after (newest_facts history) (change ∷ changes); pick = None } ∷ history
+history_with history (change ∷ changes) =
+    record { facts = facts_after (newest_facts history) (change ∷ changes); pick = None } ∷ history
 
 abbrev pub session_with : Session → List Entry → Session
 session_with session batch = record {
@@ -86,11 +88,13 @@ pub record Outcome : Type 0 where
 
 -- an act that fires nothing keeps the history as it was, and leads to a state
 abbrev pub unfired : Act → State → Session → Outcome
-unfired act state session = record { act = act; pick = None; effect = NoEffect; session = record session { state = state } }
+unfired act state session =
+    record { act = act; pick = None; effect = NoEffect; session = record session { state = state } }
 
 -- the block of an instance, where the facts are these and so many objects were made
 abbrev pub instance_block : Doc → Instance → List Fact → ℕ → Block
-instance_block doc i facts made = option_map_or (λ rule. block_of rule i.row facts made) (rule_of doc i.rule) VoidBlock
+instance_block doc i facts made =
+    option_map_or (λ rule. block_of rule i.row facts made) (rule_of doc i.rule) VoidBlock
 
 abbrev pub block_at : Doc → Session → Instance → Block
 block_at doc session i = instance_block doc i (newest_facts session.history) session.made
@@ -140,7 +144,8 @@ outcome_in doc session Disposed choice = unfired DisposedAct Disposed session
 -- a Halt or a Dispose at the end of a batch fixes the act, and the machine has the state that it led to
 abbrev pub outcome_after : Doc → Option Act → Session → Outcome
 outcome_after doc (Some act) session = unfired act session.state session
-outcome_after doc None session = outcome_in doc session session.state (chosen_instance doc (moments_of doc session.history))
+outcome_after doc None session =
+    outcome_in doc session session.state (chosen_instance doc (moments_of doc session.history))
 
 abbrev pub outcome_of : Doc → Session → List Entry → Outcome
 outcome_of doc session batch = outcome_after doc (ending_act batch) (session_with session batch)

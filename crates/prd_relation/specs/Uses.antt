@@ -11,7 +11,8 @@ use Rattle.rif_terms.specs.declared.constant.Const.{Const}
 use Rattle.rif_terms.specs.declared.fact.Fact.{Fact}
 use Rattle.rif_terms.specs.declared.fact.Fact.TheVariants.{Frame}
 use Rattle.rif_terms.specs.declared.change.Change.{Change}
-use Rattle.rif_terms.specs.declared.change.Change.TheVariants.{Assert as AssertChange, Retract as RetractChange, Modify as ModifyChange}
+use Rattle.rif_terms.specs.declared.change.Change.TheVariants.{Assert as AssertChange, Retract as RetractChange}
+use Rattle.rif_terms.specs.declared.change.Change.TheVariants.{Modify as ModifyChange}
 use Rattle.rif_terms.specs.declared.tree.Term.{Term}
 use Rattle.prd_relation.specs.declared.block.Block.{Block}
 use Rattle.prd_relation.specs.declared.block.Block.TheVariants.{Void, Changes}
@@ -32,7 +33,8 @@ frame_change Modify o s v = ModifyChange o s v
 
 abbrev pub slot_change : (Const → Const → Const → Change) → Row → Term → Term × Term → Option Change
 slot_change change row object pair =
-    option_and_then (λ o. of_both (value_of row pair.0) (value_of row pair.1) (λ s v. Some (change o s v))) (value_of row object)
+    option_and_then (λ o. of_both (value_of row pair.0) (value_of row pair.1) (λ s v. Some (change o s v)))
+    (value_of row object)
 
 abbrev pub HasMadeAtMost : ℕ → Block → Type 0
 HasMadeAtMost most Void = Unit {0}

@@ -6,7 +6,8 @@ ghost use Rattle.rif_terms.specs.declared.fact.Fact.TheVariants.{Atom, Member};
 ghost use Rattle.rif_terms.specs.declared.change.Change.TheVariants.{RetractSlot, RetractObject};
 ghost use Rattle.rif_terms.specs.declared.rule.Decl.TheVariants.{New};
 ghost use Rattle.rif_match.specs.Values.{value_of, values_of};
-ghost use Rattle.prd_relation.specs.Blocks.{of_both, least_value, slot_value, after_decl, after_decls, slot_changes, target_changes, action_changes, changes_of, block_in, block_of};
+ghost use Rattle.prd_relation.specs.Blocks.{of_both, least_value, slot_value, after_decl, after_decls, slot_changes};
+ghost use Rattle.prd_relation.specs.Blocks.{target_changes, action_changes, changes_of, block_in, block_of};
 ghost use Rattle.prd_relation.specs.Uses.{fact_change, frame_change, slot_change, HasMadeAtMost};
 
 use crate::block::Block;
@@ -130,7 +131,8 @@ fn slot_of(
     object: &Term,
     slot: &Term,
 ) -> Result<Option<Const>, OutOfMemory>
-    ensures { IfOk result (λ found. found ≡ of_both (value_of row.now object.now) (value_of row.now slot.now) (least_value facts.now)) }
+    ensures { IfOk result (λ found. found
+        ≡ of_both (value_of row.now object.now) (value_of row.now slot.now) (least_value facts.now)) }
 {
     match value_in(alloc, row, object)? {
         Some(of) => match value_in(alloc, row, slot)? {
@@ -217,7 +219,8 @@ fn slot_retracted(
     object: &Term,
     slot: &Term,
 ) -> Result<Option<Listed<Change>>, OutOfMemory>
-    ensures { IfOk result (λ found. found ≡ of_both (value_of row.now object.now) (value_of row.now slot.now) (λ o s. Some (RetractSlot o s ∷ []))) }
+    ensures { IfOk result (λ found. found ≡ of_both (value_of row.now object.now) (value_of row.now slot.now)
+        (λ o s. Some (RetractSlot o s ∷ []))) }
 {
     match value_in(alloc, row, object)? {
         Some(of) => match value_in(alloc, row, slot)? {
@@ -268,7 +271,8 @@ fn changes_of_atom(
     predicate: &Const,
     arguments: &[Term],
 ) -> Result<Option<Listed<Change>>, OutOfMemory>
-    ensures { IfOk result (λ found. found ≡ option_map (λ cs. fact_change way (Atom predicate.now cs) ∷ []) (values_of row.now arguments.now)) }
+    ensures { IfOk result (λ found. found
+        ≡ option_map (λ cs. fact_change way (Atom predicate.now cs) ∷ []) (values_of row.now arguments.now)) }
 {
     match values_in(alloc, row, arguments)? {
         Some(constants) => {
@@ -286,7 +290,8 @@ fn changes_of_member(
     object: &Term,
     class: &Term,
 ) -> Result<Option<Listed<Change>>, OutOfMemory>
-    ensures { IfOk result (λ found. found ≡ of_both (value_of row.now object.now) (value_of row.now class.now) (λ o c. Some (fact_change way (Member o c) ∷ []))) }
+    ensures { IfOk result (λ found. found ≡ of_both (value_of row.now object.now) (value_of row.now class.now)
+        (λ o c. Some (fact_change way (Member o c) ∷ []))) }
 {
     match value_in(alloc, row, object)? {
         Some(of) => match value_in(alloc, row, class)? {
@@ -339,7 +344,8 @@ fn change_of_pair(
     object: Const,
     pair: &(Term, Term),
 ) -> Result<Option<Change>, OutOfMemory>
-    ensures { IfOk result (λ found. found ≡ of_both (value_of row.now pair.now.0) (value_of row.now pair.now.1) (λ s v. Some (frame_change way object s v))) }
+    ensures { IfOk result (λ found. found ≡ of_both (value_of row.now pair.now.0) (value_of row.now pair.now.1)
+        (λ s v. Some (frame_change way object s v))) }
 {
     match value_in(alloc, row, &pair.0)? {
         Some(slot) => match value_in(alloc, row, &pair.1)? {

@@ -39,7 +39,8 @@ fn unrefracted_candidates(
     doc: &Doc,
     history: &Plain,
 ) -> Result<Vec<Candidate>, OutOfMemory>
-    ensures { IfOk result (λ all. all.items ≡ map (candidate_of doc.now history.now) (unrefracted_instances history.now (newest_conflict_set history.now))) }
+    ensures { IfOk result (λ all. all.items ≡ map (candidate_of doc.now history.now)
+        (unrefracted_instances history.now (newest_conflict_set history.now))) }
 {
     let instances = history.conflict_set();
     let marks = history.marks();
@@ -57,7 +58,8 @@ fn push_unrefracted(
     instance: &Instance,
     mark: Mark,
 ) -> Result<(), OutOfMemory>
-    ensures { OnOk result (all.new.items ≡ all.old.items ++ (if mark.refracted then [] else record { instance = instance.now; priority = priority_of doc.now instance.now.rule; age = mark.age } ∷ [])) }
+    ensures { OnOk result (all.new.items ≡ all.old.items ++ (if mark.refracted then [] else
+        record { instance = instance.now; priority = priority_of doc.now instance.now.rule; age = mark.age } ∷ [])) }
 {
     if !mark.refracted {
         all.push(Candidate {

@@ -1,8 +1,10 @@
-//! What the words of histories and of the choice promise. Each law is the clause of a function with an
-//! empty body, and its statement stands in specs/Laws.antt.
+//! What the words of histories, of the choice and of runs promise. Each law is the clause of a function
+//! with an empty body, and its statement stands in specs/Laws.antt.
 //!
 //! Source: RIF-PRD, "Operational semantics of a production rule system" and "Conflict resolution".
-ghost use Rattle.prd_relation.specs.Laws.{AreAgesSaid, IsRefractionSaid, AreOthersUnaged, ChoosesUnrefracted, ChoosesBest, ChoosesWhereItCan, AreFiringsStates, DisposesEnd};
+ghost use Rattle.prd_relation.specs.Laws.{AreAgesSaid, IsRefractionSaid, AreOthersUnaged};
+ghost use Rattle.prd_relation.specs.Laws.{ChoosesUnrefracted, ChoosesBest, ChoosesWhereItCan};
+ghost use Rattle.prd_relation.specs.Laws.{AreFiringsStates, DisposesEnd, IsReplayOne, AreReplaysLawful};
 
 /// Law: the age is how many of the newest states in a row have the instance in their conflict sets.
 pub fn ages_count_states_in_a_row()
@@ -43,4 +45,15 @@ pub fn firings_are_states()
 /// Law: no batch of a run follows one that ends in a Dispose.
 pub fn a_dispose_ends_the_run()
     ensures { DisposesEnd }
+{}
+
+/// Law: two replays of the same batches are the same list of batches, so their turns are the same too.
+pub fn one_replay()
+    ensures { IsReplayOne }
+{}
+
+/// Law: where each given batch is lawful, none is empty and none follows one that disposes, the batches of
+/// a replay are those of a run.
+pub fn replays_are_lawful()
+    ensures { AreReplaysLawful }
 {}

@@ -1,4 +1,5 @@
-ghost use Rattle.std.specs.Prelude.{◌≡◌, ◌<◌, ◌∷◌, map, length, IfOk, IfSome, IfNone, OnOk, OnErr, Some, false, slice_get};
+ghost use Rattle.std.specs.Prelude.{◌≡◌, ◌<◌, ◌∷◌, map, length, IfOk, IfSome, IfNone, OnOk, OnErr, Some, false};
+ghost use Rattle.std.specs.Prelude.{slice_get};
 ghost use Rattle.rif_terms.specs.InstanceOrder.{instance_cmp};
 ghost use Rattle.rif_terms.specs.Sets.{has};
 ghost use Rattle.rif_match.specs.ConflictSet.{conflict_set};
@@ -35,7 +36,9 @@ impl Model for Plain {
 
     ghost view = { λ plain. reverse plain.moments.items };
 
-    ghost invariant = { λ plain. (0 < length plain.moments.items) × (plain.marks.items ≡ map (mark_of (reverse plain.moments.items)) (newest_conflict_set (reverse plain.moments.items))) };
+    ghost invariant = { λ plain. (0 < length plain.moments.items) ×
+        (plain.marks.items ≡ map (mark_of (reverse plain.moments.items))
+        (newest_conflict_set (reverse plain.moments.items))) };
 }
 
 impl Plain {
@@ -72,7 +75,8 @@ impl Plain {
         facts: &Facts,
         pick: Option<Instance>,
     ) -> Result<(), OutOfMemory>
-        ensures ok { OnOk result (self.new ≡ record { conflict_set = conflict_set doc.now facts.now; pick = pick } ∷ self.old) }
+        ensures ok { OnOk result (self.new
+            ≡ record { conflict_set = conflict_set doc.now facts.now; pick = pick } ∷ self.old) }
         ensures err { OnErr result (self.new ≡ self.old) }
     {
         let conflict_set = list_instances(alloc, doc, facts)?;

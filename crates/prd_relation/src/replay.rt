@@ -26,7 +26,8 @@ pub struct PlainRun {
 /// Source: RIF-PRD, "Operational semantics of a production rule system"; batches are our own
 /// (docs/PROFILE.md, "Turns").
 pub fn replay_plain(alloc: Global, doc: &Doc, batches: Vec<Batch>) -> Result<PlainRun, OutOfMemory>
-    ensures { IfOk result (λ run. (all : List (List Entry)) × IsReplay doc.now batches.items all × (run.turns ≡ run_of doc.now all) × (run.facts ≡ facts_at_end doc.now all)) }
+    ensures { IfOk result (λ run. (all : List (List Entry)) × IsReplay doc.now batches.items all
+        × (run.turns ≡ run_of doc.now all) × (run.facts ≡ facts_at_end doc.now all)) }
 {
     let mut left = VecDeque::from_vec(batches);
     let mut session = PlainSession::start(alloc, doc)?;
@@ -48,7 +49,9 @@ fn make_turns(
     session: &mut PlainSession,
     turns: &mut Vec<Turn>,
 ) -> Result<(), OutOfMemory>
-    ensures { (given left : List (List Entry)) → IsReplayed doc.now given (batch ∷ left) false turns.old.items session.old → OnOk result (IsReplayed doc.now given left false turns.new.items session.new) }
+    ensures { (given left : List (List Entry))
+        → IsReplayed doc.now given (batch ∷ left) false turns.old.items session.old
+        → OnOk result (IsReplayed doc.now given left false turns.new.items session.new) }
 {
     let mut fired = make_turn(alloc, doc, batch, session, turns)?;
     while fired {
@@ -65,8 +68,10 @@ fn make_turn(
     session: &mut PlainSession,
     turns: &mut Vec<Turn>,
 ) -> Result<bool, OutOfMemory>
-    ensures next { (s : Session) → Shows doc.now session.old s → IfOk result (λ fired. IsNextTurn doc.now s batch fired turns.old.items turns.new.items session.new) }
-    ensures lowers { IfOk result (λ fired. fired ≡ true → budget_of session.new.state < budget_of (state_with session.old.state batch)) }
+    ensures next { (s : Session) → Shows doc.now session.old s
+        → IfOk result (λ fired. IsNextTurn doc.now s batch fired turns.old.items turns.new.items session.new) }
+    ensures lowers { IfOk result (λ fired. fired ≡ true
+        → budget_of session.new.state < budget_of (state_with session.old.state batch)) }
 {
     let turn = session.turn(alloc, doc, batch)?;
     let fired = turn.act == Some(Act::Fired);

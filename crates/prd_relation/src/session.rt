@@ -32,7 +32,9 @@ pub struct Settled {
 impl PlainSession {
     ghost use Rattle.std.specs.Prelude.{◌≡◌, ◌<◌, ◌≤◌, ◌^◌, IfOk, OnOk, Some};
     ghost use Rattle.session_states.specs.declared.turn.Act.TheVariants.{Fired};
-    ghost use Rattle.prd_relation.specs.Turns.{Session, first_session, session_with, state_with, outcome_in, outcome_after, ending_act, firing_of, block_at, turn_of, session_after};
+    ghost use Rattle.prd_relation.specs.Turns.{Session, first_session, session_with, state_with, outcome_in};
+    ghost use Rattle.prd_relation.specs.Turns.{outcome_after, ending_act, firing_of, block_at, turn_of};
+    ghost use Rattle.prd_relation.specs.Turns.{session_after};
     ghost use Rattle.prd_relation.specs.Choice.{chosen_instance};
     ghost use Rattle.prd_relation.specs.History.{moments_of};
     ghost use Rattle.prd_relation.specs.Session.{Shows, Settles, Lowers, budget_of};
@@ -52,9 +54,12 @@ impl PlainSession {
 
     /// Makes the turn of a batch. After want of memory the session is spent.
     pub fn turn(&mut self, alloc: Global, doc: &Doc, batch: Batch) -> Result<Turn, OutOfMemory>
-        ensures turn { (s : Session) → Shows doc.now self.old s → IfOk result (λ turn. turn ≡ turn_of doc.now s batch) }
-        ensures shows { (s : Session) → Shows doc.now self.old s → OnOk result (Shows doc.now self.new (session_after doc.now s batch)) }
-        ensures lowers { IfOk result (λ turn. turn.act ≡ Some Fired → budget_of self.new.state < budget_of (state_with self.old.state batch)) }
+        ensures turn { (s : Session) → Shows doc.now self.old s
+            → IfOk result (λ turn. turn ≡ turn_of doc.now s batch) }
+        ensures shows { (s : Session) → Shows doc.now self.old s
+            → OnOk result (Shows doc.now self.new (session_after doc.now s batch)) }
+        ensures lowers { IfOk result (λ turn. turn.act ≡ Some Fired
+            → budget_of self.new.state < budget_of (state_with self.old.state batch)) }
     {
         self.take(alloc, doc, batch.entries())?;
         let settled = self.settle(alloc, doc, ending(batch.entries()))?;
@@ -68,7 +73,8 @@ impl PlainSession {
 
     // Takes the items of a batch in order.
     fn take(&mut self, alloc: Global, doc: &Doc, batch: &[Entry]) -> Result<(), OutOfMemory>
-        ensures shows { (s : Session) → Shows doc.now self.old s → OnOk result (Shows doc.now self.new (session_with s batch.now)) }
+        ensures shows { (s : Session) → Shows doc.now self.old s
+            → OnOk result (Shows doc.now self.new (session_with s batch.now)) }
         ensures state { OnOk result (self.new.state ≡ state_with self.old.state batch.now) }
     {
         self.state = state_after(self.state, batch);
@@ -90,9 +96,12 @@ impl PlainSession {
         ending: Option<Act>,
     ) -> Result<Settled, OutOfMemory>
         requires { NeverFires ending }
-        ensures settles { (s : Session) → Shows doc.now self.old s → IfOk result (λ settled. Settles settled (outcome_after doc.now ending s)) }
-        ensures shows { (s : Session) → Shows doc.now self.old s → OnOk result (Shows doc.now self.new (outcome_after doc.now ending s).session) }
-        ensures lowers { IfOk result (λ settled. Lowers settled (budget_of self.old.state) (budget_of self.new.state)) }
+        ensures settles { (s : Session) → Shows doc.now self.old s
+            → IfOk result (λ settled. Settles settled (outcome_after doc.now ending s)) }
+        ensures shows { (s : Session) → Shows doc.now self.old s
+            → OnOk result (Shows doc.now self.new (outcome_after doc.now ending s).session) }
+        ensures lowers { IfOk result
+            (λ settled. Lowers settled (budget_of self.old.state) (budget_of self.new.state)) }
     {
         match ending {
             Some(act) => Ok(unfired(act)),
@@ -101,9 +110,14 @@ impl PlainSession {
     }
 
     fn act(&mut self, alloc: Global, doc: &Doc) -> Result<Settled, OutOfMemory>
-        ensures settles { (s : Session) → Shows doc.now self.old s → IfOk result (λ settled. Settles settled (outcome_in doc.now s s.state (chosen_instance doc.now (moments_of doc.now s.history)))) }
-        ensures shows { (s : Session) → Shows doc.now self.old s → OnOk result (Shows doc.now self.new (outcome_in doc.now s s.state (chosen_instance doc.now (moments_of doc.now s.history))).session) }
-        ensures lowers { IfOk result (λ settled. Lowers settled (budget_of self.old.state) (budget_of self.new.state)) }
+        ensures settles { (s : Session) → Shows doc.now self.old s
+            → IfOk result (λ settled. Settles settled
+            (outcome_in doc.now s s.state (chosen_instance doc.now (moments_of doc.now s.history)))) }
+        ensures shows { (s : Session) → Shows doc.now self.old s
+            → OnOk result (Shows doc.now self.new
+            (outcome_in doc.now s s.state (chosen_instance doc.now (moments_of doc.now s.history))).session) }
+        ensures lowers { IfOk result
+            (λ settled. Lowers settled (budget_of self.old.state) (budget_of self.new.state)) }
     {
         match self.state {
             State::Idle => Ok(unfired(Act::Idle)),
@@ -141,8 +155,10 @@ impl PlainSession {
         instance: Instance,
         next: State,
     ) -> Result<Settled, OutOfMemory>
-        ensures settles { (s : Session) → Shows doc.now self.old s → IfOk result (λ settled. Settles settled (firing_of s next instance (block_at doc.now s instance))) }
-        ensures shows { (s : Session) → Shows doc.now self.old s → OnOk result (Shows doc.now self.new (firing_of s next instance (block_at doc.now s instance)).session) }
+        ensures settles { (s : Session) → Shows doc.now self.old s
+            → IfOk result (λ settled. Settles settled (firing_of s next instance (block_at doc.now s instance))) }
+        ensures shows { (s : Session) → Shows doc.now self.old s
+            → OnOk result (Shows doc.now self.new (firing_of s next instance (block_at doc.now s instance)).session) }
         ensures state { OnOk result (self.new.state ≡ next) }
     {
         let block = block_of_instance(alloc, doc, &instance, &self.facts, self.made)?;

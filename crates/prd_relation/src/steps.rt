@@ -1,6 +1,7 @@
 //! The steps of a turn that need no session.
 ghost use Rattle.std.specs.Prelude.{◌≡◌, ◌≤◌, ◌^◌, ◌++◌, IfOk, OnOk};
-ghost use Rattle.prd_relation.specs.Turns.{state_with, changes_in, change_of, ending_act, ending_item, facts_after_block, effect_of_block, made_after_block, instance_block};
+ghost use Rattle.prd_relation.specs.Turns.{state_with, changes_in, change_of, ending_act, ending_item};
+ghost use Rattle.prd_relation.specs.Turns.{facts_after_block, effect_of_block, made_after_block, instance_block};
 ghost use Rattle.prd_relation.specs.Choice.{rule_of};
 ghost use Rattle.prd_relation.specs.Endings.{NeverFires};
 ghost use Rattle.prd_relation.specs.Uses.{HasMadeAtMost};

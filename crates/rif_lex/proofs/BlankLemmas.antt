@@ -1,14 +1,18 @@
 -- What is passed over at the front of a text is white space or an annotation.
-use Rattle.std.proofs.Common.{◌≡◌, ◌⊎◌, ℕ, ◌+◌, List, [], ◌∷◌, ◌++◌, length, drop, suc, refl, ap, ◌∙◌, sym, arith, true, false, ◌==◌, ◌||◌, ◌&&◌, Some, None, inl, inr}
+use Rattle.std.proofs.Common.{◌≡◌, ◌⊎◌, ℕ, ◌+◌, List, [], ◌∷◌, ◌++◌, length, drop, suc, refl, ap, ◌∙◌, sym, arith}
+use Rattle.std.proofs.Common.{true, false, ◌==◌, ◌||◌, ◌&&◌, Some, None, inl, inr}
 use Rattle.std.proofs.lemmas.Bool.{eqb-true}
 use Rattle.std.specs.declared.option.Option.{Option}
 use Rattle.rif_lex.specs.declared.class.Class.{Class}
-use Rattle.rif_lex.specs.declared.class.Class.TheVariants.{White, Letter, Zero, Digit, Underscore, Minus, Question, Quote, Less, Open, Close, OpenSquare, CloseSquare, Equal, Hash, Caret, Other}
+use Rattle.rif_lex.specs.declared.class.Class.TheVariants.{White, Letter, Zero, Digit, Underscore, Minus, Question}
+use Rattle.rif_lex.specs.declared.class.Class.TheVariants.{Quote, Less, Open, Close, OpenSquare, CloseSquare, Equal}
+use Rattle.rif_lex.specs.declared.class.Class.TheVariants.{Hash, Caret, Other}
 use Rattle.rif_lex.specs.declared.token.Kind.{Kind}
 use Rattle.rif_lex.specs.declared.token.Kind.TheVariants.{Str, Iri}
 use Rattle.rif_lex.specs.declared.piece.Piece.TheVariants.{Blank}
 use Rattle.rif_lex.specs.Characters.{class_at, begins, begins_two, begins_name, begins_number}
-use Rattle.rif_lex.specs.Pieces.{name_length, digits_length, longer, annotation_length, token_to, blank_to, integer_to, piece_of, piece_at}
+use Rattle.rif_lex.specs.Pieces.{name_length, digits_length, longer, annotation_length, token_to, blank_to}
+use Rattle.rif_lex.specs.Pieces.{integer_to, piece_of, piece_at}
 use Rattle.rif_lex.specs.Forms.{has_close, IsWhiteSpace, IsAnnotation, BlanksAreWhite}
 use Rattle.rif_lex.proofs.TestLemmas.{by_test, both, neither, longer_one}
 use Rattle.rif_lex.proofs.SplitLemmas.{open_byte}
@@ -134,5 +138,8 @@ annotation_piece text n at = rw (at.is, length_of at.inside at.rest at.next, at.
 pub blanks_are_white : BlanksAreWhite
 blanks_are_white text n = (
   white_of_piece text n,
-  λ either. elim either [ inl space ↦ white_piece text n space | inr annotation ↦ annotation_piece text n annotation ],
+  λ either. elim either [
+    | inl space ↦ white_piece text n space
+    | inr annotation ↦ annotation_piece text n annotation
+  ],
 )

@@ -1,14 +1,20 @@
 -- A piece has a byte at least, and lies within the text at whose front it stands.
-use Rattle.std.proofs.Common.{◌≡◌, ℕ, ◌+◌, ◌≤◌, ◌<◌, List, [], ◌∷◌, length, drop, get_or, suc, refl, arith, true, false, cond, Bool, ◌==◌, ◌||◌, Some, None, IfSome}
+use Rattle.std.proofs.Common.{◌≡◌, ℕ, ◌+◌, ◌≤◌, ◌<◌, List, [], ◌∷◌, length, drop, get_or, suc, refl, arith, true}
+use Rattle.std.proofs.Common.{false, cond, Bool, ◌==◌, ◌||◌, Some, None, IfSome}
 use Rattle.std.proofs.lemmas.List.{length-drop}
 use Rattle.std.specs.declared.option.Option.{Option}
 use Rattle.rif_lex.specs.declared.class.Class.{Class}
-use Rattle.rif_lex.specs.declared.class.Class.TheVariants.{White, Letter, Zero, Digit, Underscore, Minus, Question, Quote, Less, Open, Close, OpenSquare, CloseSquare, Equal, Hash, Caret, Other}
+use Rattle.rif_lex.specs.declared.class.Class.TheVariants.{White, Letter, Zero, Digit, Underscore, Minus, Question}
+use Rattle.rif_lex.specs.declared.class.Class.TheVariants.{Quote, Less, Open, Close, OpenSquare, CloseSquare, Equal}
+use Rattle.rif_lex.specs.declared.class.Class.TheVariants.{Hash, Caret, Other}
 use Rattle.rif_lex.specs.declared.token.Kind.{Kind}
 use Rattle.rif_lex.specs.declared.token.Kind.TheVariants.{Local, Var, Str, Iri}
 use Rattle.rif_lex.specs.declared.piece.Piece.{Piece}
-use Rattle.rif_lex.specs.Characters.{class_at, begins, begins_two, begins_name, begins_number, is_name, is_digit, is_escape, is_inside_iri}
-use Rattle.rif_lex.specs.Pieces.{name_length, digits_length, longer, string_length, escaped_length, iri_length, annotation_length, token_to, blank_to, named, word_to, integer_to, piece_of, piece_at}
+use Rattle.rif_lex.specs.Characters.{class_at, begins, begins_two, begins_name, begins_number, is_name, is_digit}
+use Rattle.rif_lex.specs.Characters.{is_escape, is_inside_iri}
+use Rattle.rif_lex.specs.Pieces.{name_length, digits_length, longer, string_length, escaped_length, iri_length}
+use Rattle.rif_lex.specs.Pieces.{annotation_length, token_to, blank_to, named, word_to, integer_to, piece_of}
+use Rattle.rif_lex.specs.Pieces.{piece_at}
 use Rattle.rif_lex.specs.Scanning.{FitsIn}
 use Rattle.rif_lex.proofs.TestLemmas.{both}
 
@@ -21,7 +27,8 @@ name_length_le (b ∷ bs) = elim (is_name (class_at b) bs) as (λ v. cond v (suc
 
 pub digits_length_le : (bs : List ℕ) → digits_length bs ≤ length bs
 digits_length_le [] = omega arith
-digits_length_le (b ∷ bs) = elim (is_digit (class_at b)) as (λ v. cond v (suc (digits_length bs)) 0 ≤ suc (length bs)) [
+digits_length_le (b ∷ bs) = elim (is_digit (class_at b))
+    as (λ v. cond v (suc (digits_length bs)) 0 ≤ suc (length bs)) [
   | true ↦ omega (arith, digits_length_le bs)
   | false ↦ omega arith
 ]
@@ -129,7 +136,8 @@ fits_of Zero b bs = integer_fits 1 (b ∷ bs) (omega arith) (omega arith)
 fits_of Digit b bs = number_fits b bs
 fits_of Underscore b bs = named_fits Local bs
 fits_of Minus b bs =
-    either_fits (begins 62 bs) _ _ _ (signs_fit 62 bs) (either_fits (begins_number bs) _ _ _ (λ _. number_fits b bs) tt)
+    either_fits (begins 62 bs) _ _ _ (signs_fit 62 bs)
+    (either_fits (begins_number bs) _ _ _ (λ _. number_fits b bs) tt)
 fits_of Question b bs = named_fits Var bs
 fits_of Quote b bs = token_fits Str (string_length bs) (length bs) (string_within bs)
 fits_of Less b bs = token_fits Iri (iri_length bs) (length bs) (iri_within bs)

@@ -1,11 +1,14 @@
 -- A token stays it where something else follows that it ends before.
-use Rattle.std.proofs.Common.{◌≡◌, ℕ, List, [], ◌∷◌, ◌++◌, length, take, refl, ap, ◌∙◌, sym, subst, arith, true, false, not}
+use Rattle.std.proofs.Common.{◌≡◌, ℕ, List, [], ◌∷◌, ◌++◌, length, take, refl, ap, ◌∙◌, sym, subst, arith, true}
+use Rattle.std.proofs.Common.{false, not}
 use Rattle.std.proofs.lemmas.Bool.{not-true}
 use Rattle.std.proofs.lemmas.List.{append-nil, append_cancel_left, take_at, take_all}
 use Rattle.rif_lex.specs.declared.class.Class.{Class}
 use Rattle.rif_lex.specs.declared.class.Class.TheVariants.{Minus}
 use Rattle.rif_lex.specs.declared.token.Kind.{Kind}
-use Rattle.rif_lex.specs.declared.token.Kind.TheVariants.{Word, Curie, Local, Var, Int, Str, Iri, Open, Close, OpenSquare, CloseSquare, Equal, Hash, HashHash, Arrow, Carets}
+use Rattle.rif_lex.specs.declared.token.Kind.TheVariants.{Word, Curie, Local, Var, Int, Str, Iri, Open, Close}
+use Rattle.rif_lex.specs.declared.token.Kind.TheVariants.{OpenSquare, CloseSquare, Equal, Hash, HashHash, Arrow}
+use Rattle.rif_lex.specs.declared.token.Kind.TheVariants.{Carets}
 use Rattle.rif_lex.specs.declared.piece.Piece.TheVariants.{Lexeme}
 use Rattle.rif_lex.specs.Characters.{class_at, begins, begins_name, is_name}
 use Rattle.rif_lex.specs.Pieces.{piece_at}
@@ -22,7 +25,8 @@ minus_before (b ∷ bs) rest new never was = was
 
 name_before : (c : Class) (bs rest new : List ℕ) → begins 62 new ≡ false → is_name c (bs ++ rest) ≡ true →
     is_name c (bs ++ new) ≡ true
-name_before Minus bs rest new never is = ap not (minus_before bs rest new never (not-true (begins 62 (bs ++ rest)) is))
+name_before Minus bs rest new never is =
+    ap not (minus_before bs rest new never (not-true (begins 62 (bs ++ rest)) is))
 name_before c bs rest new never is = is
 
 -- names are names before all that doesn't begin with `>`
@@ -53,8 +57,12 @@ curie_before text rest new never c = record {
 
 named_before : (sign : ℕ) (text rest new : List ℕ) → begins 62 new ≡ false → IsNamed sign text rest →
     IsNamed sign text new
-named_before sign text rest new never n =
-    record { first = n.first; more = n.more; is = n.is; names = names_before (n.first ∷ n.more) rest new never n.names }
+named_before sign text rest new never n = record {
+  first = n.first;
+  more = n.more;
+  is = n.is;
+  names = names_before (n.first ∷ n.more) rest new never n.names;
+}
 
 -- names end before the text
 record NamesEnd (rest : List ℕ) : Type 0 where
@@ -112,7 +120,8 @@ pub split_front : (k : Kind) (n : ℕ) (text : List ℕ) (at : IsSplit k n text)
 split_front k n text at = ap (take n) at.whole ∙ take_at at.front at.rest n (sym at.long)
 
 -- a token's text is, alone, one token of its kind
-pub piece_alone : (k : Kind) (n : ℕ) (text : List ℕ) → piece_at text ≡ Lexeme k n → piece_at (take n text) ≡ Lexeme k n
+pub piece_alone : (k : Kind) (n : ℕ) (text : List ℕ) → piece_at text ≡ Lexeme k n →
+    piece_at (take n text) ≡ Lexeme k n
 piece_alone k n text is =
     let at = piece_splits k n text is in
     let alone = front_piece k n text [] at (ends_at_end k) in

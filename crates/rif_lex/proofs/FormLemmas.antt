@@ -1,5 +1,7 @@
 -- From a form at the front of a text to the piece that stands there.
-use Rattle.std.proofs.Common.{◌≡◌, ℕ, ◌+◌, ◌≤◌, List, [], ◌∷◌, ◌++◌, length, take, drop, suc, refl, ap, ◌∙◌, sym, arith, true, false, cond, Bool, ◌==◌, ◌||◌, not, Some, inl, inr, length-append, append_assoc}
+use Rattle.std.proofs.Common.{◌≡◌, ℕ, ◌+◌, ◌≤◌, List, [], ◌∷◌, ◌++◌, length, take, drop, suc, refl, ap, ◌∙◌, sym}
+use Rattle.std.proofs.Common.{arith, true, false, cond, Bool, ◌==◌, ◌||◌, not, Some, inl, inr, length-append}
+use Rattle.std.proofs.Common.{append_assoc}
 use Rattle.std.proofs.lemmas.List.{take-append-drop, drop_at, drop-drop}
 use Rattle.std.proofs.Math.Dec.{eqb-suc-zero}
 use Rattle.std.specs.List.{flat_map, AllByRecursion}
@@ -7,11 +9,16 @@ use Rattle.std.specs.declared.option.Option.{Option}
 use Rattle.rif_lex.specs.declared.class.Class.{Class}
 use Rattle.rif_lex.specs.declared.class.Class.TheVariants.{Letter, Zero, Digit}
 use Rattle.rif_lex.specs.declared.token.Kind.{Kind}
-use Rattle.rif_lex.specs.declared.token.Kind.TheVariants.{Word, Curie, Local, Var, Int, Str, Iri, Open as OpenToken, Close as CloseToken, OpenSquare as OpenSquareToken, CloseSquare as CloseSquareToken, Equal as EqualToken, Hash as HashToken, HashHash, Arrow, Carets}
+use Rattle.rif_lex.specs.declared.token.Kind.TheVariants.{Word, Curie, Local, Var, Int, Str, Iri, Open as OpenToken}
+use Rattle.rif_lex.specs.declared.token.Kind.TheVariants.{Close as CloseToken, OpenSquare as OpenSquareToken}
+use Rattle.rif_lex.specs.declared.token.Kind.TheVariants.{CloseSquare as CloseSquareToken, Equal as EqualToken}
+use Rattle.rif_lex.specs.declared.token.Kind.TheVariants.{Hash as HashToken, HashHash, Arrow, Carets}
 use Rattle.rif_lex.specs.declared.piece.Piece.TheVariants.{Lexeme}
 use Rattle.rif_lex.specs.Characters.{class_at, begins, begins_name, is_name, is_digit, is_first_digit, is_inside_iri}
-use Rattle.rif_lex.specs.Pieces.{name_length, digits_length, longer, string_length, iri_length, named, integer_to, piece_at}
-use Rattle.rif_lex.specs.Forms.{AreNames, IsWord, IsCurie, IsNamed, IsNumber, Part, plain, escape, part_text, is_part, IsString, IsIri, HasForm}
+use Rattle.rif_lex.specs.Pieces.{name_length, digits_length, longer, string_length, iri_length, named, integer_to}
+use Rattle.rif_lex.specs.Pieces.{piece_at}
+use Rattle.rif_lex.specs.Forms.{AreNames, IsWord, IsCurie, IsNamed, IsNumber, Part, plain, escape, part_text, is_part}
+use Rattle.rif_lex.specs.Forms.{IsString, IsIri, HasForm}
 use Rattle.rif_lex.proofs.TestLemmas.{differs}
 
 -- names and what follows them
@@ -170,7 +177,8 @@ string_piece : (text rest : List ℕ) → IsString text → piece_at (text ++ re
 string_piece text rest s =
     let inside = flat_map part_text s.parts in
     let assoc : (inside ++ 34 ∷ []) ++ rest ≡ inside ++ 34 ∷ rest = append_assoc inside (34 ∷ []) rest in
-    rw (s.is, assoc, parts_length s.parts rest s.fit) (ap (Lexeme Str) (omega (arith, length-append inside (34 ∷ []))))
+    rw (s.is, assoc, parts_length s.parts rest s.fit)
+    (ap (Lexeme Str) (omega (arith, length-append inside (34 ∷ []))))
 
 inside_length : (bs rest : List ℕ) → AllByRecursion (λ b. is_inside_iri b ≡ true) bs →
     iri_length (bs ++ 62 ∷ rest) ≡ Some (suc (length bs))

@@ -1,5 +1,6 @@
 -- Lexing goes from piece to piece.
-use Rattle.std.proofs.Common.{◌≡◌, ℕ, ◌+◌, ◌-◌, ◌≤◌, suc, zero, List, [], ◌∷◌, ◌++◌, length, take, drop, refl, ap, ◌∙◌, sym, arith, Ok, Err, append_assoc, IsUtf8, true, false, nat_lt}
+use Rattle.std.proofs.Common.{◌≡◌, ℕ, ◌+◌, ◌-◌, ◌≤◌, suc, zero, List, [], ◌∷◌, ◌++◌, length, take, drop, refl, ap}
+use Rattle.std.proofs.Common.{◌∙◌, sym, arith, Ok, Err, append_assoc, IsUtf8, true, false, nat_lt}
 use Rattle.std.proofs.lemmas.Bool.{le-ltb, ltb-false}
 use Rattle.std.proofs.lemmas.Str.{is_utf8-from_IsUtf8, IsUtf8-from_is_utf8}
 use Rattle.std.proofs.lemmas.List.{drop-drop, length-drop, take_rest}
@@ -63,15 +64,16 @@ rest_behind : (text : List ℕ) (p q : Place) (n : ℕ) → IsBehind text p n q 
     drop n (drop p.offset text) ≡ drop q.offset text
 rest_behind text p q n at = drop-drop n p.offset text ∙ ap (λ (i : ℕ). drop i text) (sym at.offset)
 
-pub blank_more : (text : List ℕ) (p q : Place) (n : ℕ) → piece_at (drop p.offset text) ≡ Blank n → IsBehind text p n q →
-    tokens_behind p text ≡ tokens_behind q text
+pub blank_more : (text : List ℕ) (p q : Place) (n : ℕ) → piece_at (drop p.offset text) ≡ Blank n →
+    IsBehind text p n q → tokens_behind p text ≡ tokens_behind q text
 blank_more text p q n is at =
     let step = blank_step n p (drop p.offset text) is at.some in
     let rest = rest_behind text p q n at in
     let past = at.past in
     cc
 
-pub lexeme_more : (text : List ℕ) (p q : Place) (kind : Kind) (n : ℕ) → piece_at (drop p.offset text) ≡ Lexeme kind n →
+pub lexeme_more : (text : List ℕ) (p q : Place) (kind : Kind) (n : ℕ) →
+    piece_at (drop p.offset text) ≡ Lexeme kind n →
     IsBehind text p n q → tokens_behind p text ≡ with_front (token_at kind p n ∷ []) (tokens_behind q text)
 lexeme_more text p q kind n is at =
     let step = lexeme_step kind n p (drop p.offset text) is at.some in

@@ -1,13 +1,17 @@
 -- A token stands in one line.
-use Rattle.std.proofs.Common.{◌≡◌, ℕ, ◌+◌, List, [], ◌∷◌, ◌++◌, inl, inr, take, suc, refl, ◌∙◌, arith, true, false, cond, Bool, ◌==◌}
+use Rattle.std.proofs.Common.{◌≡◌, ℕ, ◌+◌, List, [], ◌∷◌, ◌++◌, inl, inr, take, suc, refl, ◌∙◌, arith, true, false}
+use Rattle.std.proofs.Common.{cond, Bool, ◌==◌}
 use Rattle.std.specs.List.{flat_map, AllByRecursion}
 use Rattle.rif_lex.specs.declared.token.Kind.{Kind}
-use Rattle.rif_lex.specs.declared.token.Kind.TheVariants.{Word, Curie, Local, Var, Int, Str, Iri, Open, Close, OpenSquare, CloseSquare, Equal, Hash, HashHash, Arrow, Carets}
+use Rattle.rif_lex.specs.declared.token.Kind.TheVariants.{Word, Curie, Local, Var, Int, Str, Iri, Open, Close}
+use Rattle.rif_lex.specs.declared.token.Kind.TheVariants.{OpenSquare, CloseSquare, Equal, Hash, HashHash, Arrow}
+use Rattle.rif_lex.specs.declared.token.Kind.TheVariants.{Carets}
 use Rattle.rif_lex.specs.declared.piece.Piece.TheVariants.{Lexeme}
 use Rattle.rif_lex.specs.Characters.{class_at, is_name, is_digit, is_first_digit, is_escape, is_inside_iri}
 use Rattle.rif_lex.specs.Pieces.{piece_at}
 use Rattle.rif_lex.specs.Places.{line_feeds}
-use Rattle.rif_lex.specs.Forms.{AreNames, IsWord, IsCurie, IsNumber, Part, plain, escape, part_text, is_part, IsString, IsIri, HasForm}
+use Rattle.rif_lex.specs.Forms.{AreNames, IsWord, IsCurie, IsNumber, Part, plain, escape, part_text, is_part}
+use Rattle.rif_lex.specs.Forms.{IsString, IsIri, HasForm}
 use Rattle.rif_lex.proofs.TestLemmas.{differs}
 use Rattle.rif_lex.proofs.SplitLemmas.{piece_splits}
 use Rattle.rif_lex.proofs.FollowLemmas.{split_front}

@@ -1,18 +1,25 @@
 -- The piece at the front of a text is the longest token that has a form there.
-use Rattle.std.proofs.Common.{◌≡◌, ℕ, ◌+◌, ◌≤◌, List, [], ◌∷◌, ◌++◌, length, take, drop, suc, refl, ap, ◌∙◌, sym, subst, arith, true, false, ◌==◌, ◌||◌, inl, inr, length-append, length-take-le, append_assoc}
+use Rattle.std.proofs.Common.{◌≡◌, ℕ, ◌+◌, ◌≤◌, List, [], ◌∷◌, ◌++◌, length, take, drop, suc, refl, ap, ◌∙◌, sym}
+use Rattle.std.proofs.Common.{subst, arith, true, false, ◌==◌, ◌||◌, inl, inr, length-append, length-take-le}
+use Rattle.std.proofs.Common.{append_assoc}
 use Rattle.std.proofs.lemmas.Bool.{eqb-true}
 use Rattle.std.proofs.lemmas.List.{take-append-drop, drop_at, take_at}
 use Rattle.std.specs.List.{AllByRecursion}
 use Rattle.rif_lex.specs.declared.token.Kind.{Kind}
-use Rattle.rif_lex.specs.declared.token.Kind.TheVariants.{Word, Curie, Local, Var, Int, Str, Iri, Open as OpenToken, Close as CloseToken, OpenSquare as OpenSquareToken, CloseSquare as CloseSquareToken, Equal as EqualToken, Hash as HashToken, HashHash, Arrow, Carets}
+use Rattle.rif_lex.specs.declared.token.Kind.TheVariants.{Word, Curie, Local, Var, Int, Str, Iri, Open as OpenToken}
+use Rattle.rif_lex.specs.declared.token.Kind.TheVariants.{Close as CloseToken, OpenSquare as OpenSquareToken}
+use Rattle.rif_lex.specs.declared.token.Kind.TheVariants.{CloseSquare as CloseSquareToken, Equal as EqualToken}
+use Rattle.rif_lex.specs.declared.token.Kind.TheVariants.{Hash as HashToken, HashHash, Arrow, Carets}
 use Rattle.rif_lex.specs.declared.piece.Piece.TheVariants.{Lexeme}
 use Rattle.rif_lex.specs.Characters.{class_at, begins, begins_name, is_name, is_digit, is_first_digit}
 use Rattle.rif_lex.specs.Pieces.{name_length, digits_length, named, word_to, integer_to, piece_at}
-use Rattle.rif_lex.specs.Forms.{AreNames, IsWord, IsCurie, IsNamed, IsNumber, HasForm, MayEnd, IsLongest, TokensAreLongest}
+use Rattle.rif_lex.specs.Forms.{AreNames, IsWord, IsCurie, IsNamed, IsNumber, HasForm, MayEnd, IsLongest}
+use Rattle.rif_lex.specs.Forms.{TokensAreLongest}
 use Rattle.rif_lex.specs.Scanning.{FitsIn}
 use Rattle.rif_lex.proofs.TestLemmas.{by_test, differs}
 use Rattle.rif_lex.proofs.FitLemmas.{piece_fits}
-use Rattle.rif_lex.proofs.FormLemmas.{CannotGoOn, names_at_least, names_more, digits_at_least, curie_at, is_first, piece_of_form}
+use Rattle.rif_lex.proofs.FormLemmas.{CannotGoOn, names_at_least, names_more, digits_at_least, curie_at, is_first}
+use Rattle.rif_lex.proofs.FormLemmas.{piece_of_form}
 use Rattle.rif_lex.proofs.SplitLemmas.{piece_splits}
 
 -- No form goes beyond the piece.
@@ -241,7 +248,8 @@ longest_of_piece text kind n e =
     let split = piece_splits kind n text e in
     let taken : take n text ≡ split.front = ap (take n) split.whole
     ∙ take_at split.front split.rest n (sym split.long) in
-    let left : drop n text ≡ split.rest = ap (drop n) split.whole ∙ drop_at split.front split.rest n (sym split.long) in
+    let left : drop n text ≡ split.rest = ap (drop n) split.whole
+    ∙ drop_at split.front split.rest n (sym split.long) in
     record {
       within = (lexeme_fits kind n text e).1;
       form = rw (taken, left) split.form;

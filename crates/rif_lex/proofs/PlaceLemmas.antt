@@ -1,9 +1,11 @@
 -- Places behind texts.
-use Rattle.std.proofs.Common.{◌≡◌, ℕ, ◌+◌, ◌<◌, List, [], ◌∷◌, ◌++◌, length, suc, refl, ap, ◌∙◌, arith, true, false, cond, ◌==◌}
+use Rattle.std.proofs.Common.{◌≡◌, ℕ, ◌+◌, ◌<◌, List, [], ◌∷◌, ◌++◌, length, suc, refl, ap, ◌∙◌, arith, true, false}
+use Rattle.std.proofs.Common.{cond, ◌==◌}
 use Rattle.std.proofs.lemmas.Bool.{lt-leb}
 use Rattle.std.specs.Str.{IsAscii}
 use Rattle.rif_lex.specs.declared.place.Place.{Place}
-use Rattle.rif_lex.specs.Places.{begins_character, line_feeds, characters, has_line_feed, last_line, place_after, place_past, first_place}
+use Rattle.rif_lex.specs.Places.{begins_character, line_feeds, characters, has_line_feed, last_line, place_after}
+use Rattle.rif_lex.specs.Places.{place_past, first_place}
 
 pub line_feeds_first : (b : ℕ) (bs : List ℕ) → line_feeds (b ∷ bs) ≡ 0 → ((b == 10) ≡ false) × (line_feeds bs ≡ 0)
 line_feeds_first b bs none = elim (b == 10) as (λ v. cond v (suc (line_feeds bs)) (line_feeds bs) ≡ 0 →

@@ -1,5 +1,6 @@
 -- An input is refused exactly where one of the three refusals stands.
-use Rattle.std.proofs.Common.{◌≡◌, ℕ, ◌≤◌, ◌<◌, suc, zero, List, length, take, refl, ap, ◌∙◌, sym, subst, arith, true, false, cond, Err, IsUtf8, nat_lt}
+use Rattle.std.proofs.Common.{◌≡◌, ℕ, ◌≤◌, ◌<◌, suc, zero, List, length, take, refl, ap, ◌∙◌, sym, subst, arith, true}
+use Rattle.std.proofs.Common.{false, cond, Err, IsUtf8, nat_lt}
 use Rattle.std.proofs.lemmas.Bool.{cases_lt, lt-ltb, ltb-true, ltb-false}
 use Rattle.std.proofs.lemmas.List.{take_all}
 use Rattle.std.proofs.lemmas.Str.{is_utf8-from_IsUtf8, IsUtf8-from_is_utf8, IsUtf8-nil, utf8_valid_len-IsValidUpTo}

@@ -1,5 +1,6 @@
 -- Scanning goes on from place to place.
-use Rattle.std.proofs.Common.{◌≡◌, ℕ, ◌+◌, ◌<◌, ◌≤◌, List, [], ◌∷◌, length, drop, refl, ap, ◌∙◌, sym, arith, true, false, Some, None, get_or}
+use Rattle.std.proofs.Common.{◌≡◌, ℕ, ◌+◌, ◌<◌, ◌≤◌, List, [], ◌∷◌, length, drop, refl, ap, ◌∙◌, sym, arith, true}
+use Rattle.std.proofs.Common.{false, Some, None, get_or}
 use Rattle.std.proofs.lemmas.List.{drop-drop, drop_more, length-drop}
 use Rattle.std.specs.declared.option.Option.{Option}
 use Rattle.rif_lex.specs.Characters.{begins_two, begins_escape}

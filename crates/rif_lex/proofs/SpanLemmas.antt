@@ -1,5 +1,6 @@
 -- What holds of each of the tokens among the pieces of a text.
-use Rattle.std.proofs.Common.{◌≡◌, ℕ, ◌+◌, ◌-◌, ◌≤◌, List, [], ◌∷◌, length, take, drop, refl, ap, sym, subst, arith, length-take-le}
+use Rattle.std.proofs.Common.{◌≡◌, ℕ, ◌+◌, ◌-◌, ◌≤◌, List, [], ◌∷◌, length, take, drop, refl, ap, sym, subst, arith}
+use Rattle.std.proofs.Common.{length-take-le}
 use Rattle.std.proofs.lemmas.List.Elements.{All-from_recursion}
 use Rattle.std.specs.List.{AllByRecursion}
 use Rattle.rif_lex.specs.declared.token.Kind.{Kind}
@@ -51,7 +52,8 @@ few_tokens text ts e =
 abbrev IsPlaced : List ℕ → Token → Type 0
 IsPlaced text t = (t.line ≡ line_at text t.start) × (t.col ≡ column_at text t.start)
 
-among_placed : (ps : List Piece) (text : List ℕ) (from : ℕ) → AllByRecursion (IsPlaced text) (tokens_among text from ps)
+among_placed : (ps : List Piece) (text : List ℕ) (from : ℕ) →
+    AllByRecursion (IsPlaced text) (tokens_among text from ps)
 among_placed [] text from = tt
 among_placed (Unreadable ∷ ps) text from = among_placed ps text from
 among_placed (Blank n ∷ ps) text from = among_placed ps text (from + n)

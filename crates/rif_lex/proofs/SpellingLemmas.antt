@@ -1,5 +1,6 @@
 -- Tokens that are written one behind another are lexed back.
-use Rattle.std.proofs.Common.{◌≡◌, ℕ, ◌+◌, ◌-◌, ◌≤◌, List, [], ◌∷◌, ◌++◌, length, take, drop, map, refl, ap, ◌∙◌, sym, subst, arith, true, Ok, append_assoc, length-append}
+use Rattle.std.proofs.Common.{◌≡◌, ℕ, ◌+◌, ◌-◌, ◌≤◌, List, [], ◌∷◌, ◌++◌, length, take, drop, map, refl, ap, ◌∙◌, sym}
+use Rattle.std.proofs.Common.{subst, arith, true, Ok, append_assoc, length-append}
 use Rattle.std.proofs.lemmas.List.{drop_at, take_at}
 use Rattle.rif_lex.specs.declared.token.Kind.{Kind}
 use Rattle.rif_lex.specs.declared.token.Token.{Token}
@@ -8,7 +9,8 @@ use Rattle.rif_lex.specs.declared.place.Place.{Place}
 use Rattle.rif_lex.specs.Pieces.{piece_at}
 use Rattle.rif_lex.specs.Places.{place_past, first_place}
 use Rattle.rif_lex.specs.Lexing.{token_at, with_front, tokens_from}
-use Rattle.rif_lex.specs.Spelling.{Written, written, Gap, joined, space, line_feed, gap_text, Spelled, spelled_text, ends_before, AreSeparate, SpelledIsLexed}
+use Rattle.rif_lex.specs.Spelling.{Written, written, Gap, joined, space, line_feed, gap_text, Spelled, spelled_text}
+use Rattle.rif_lex.specs.Spelling.{ends_before, AreSeparate, SpelledIsLexed}
 use Rattle.rif_lex.proofs.FollowLemmas.{piece_at-append}
 use Rattle.rif_lex.proofs.PlaceLemmas.{place_past-offset}
 use Rattle.rif_lex.proofs.LexingLemmas.{lexeme_step}
@@ -53,7 +55,8 @@ written_first k text front rest p at =
 
 spelled_from : (ss : List Spelled) (front : List ℕ) (p : Place) → p.offset ≡ length front → AreSeparate ss →
     (ts : List Token) ×
-    (tokens_from 0 p (spelled_text ss) ≡ Ok ts) × (map (written (front ++ spelled_text ss)) ts ≡ map (λ s. s.token) ss)
+    (tokens_from 0 p (spelled_text ss) ≡ Ok ts) ×
+    (map (written (front ++ spelled_text ss)) ts ≡ map (λ s. s.token) ss)
 spelled_from [] front p at separate = ([], refl, refl)
 spelled_from (s ∷ ss) front p at separate =
     let k = s.token.kind in

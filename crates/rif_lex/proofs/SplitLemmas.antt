@@ -1,16 +1,25 @@
 -- From the piece at the front of a text to the form that it has.
-use Rattle.std.proofs.Common.{◌≡◌, ℕ, ◌+◌, List, [], ◌∷◌, ◌++◌, length, take, drop, suc, refl, ap, ◌∙◌, sym, subst, arith, true, false, cond, Bool, ◌==◌, ◌||◌, Some, None, inl, inr, length-append, length-take-le, append_assoc}
+use Rattle.std.proofs.Common.{◌≡◌, ℕ, ◌+◌, List, [], ◌∷◌, ◌++◌, length, take, drop, suc, refl, ap, ◌∙◌, sym, subst}
+use Rattle.std.proofs.Common.{arith, true, false, cond, Bool, ◌==◌, ◌||◌, Some, None, inl, inr, length-append}
+use Rattle.std.proofs.Common.{length-take-le, append_assoc}
 use Rattle.std.proofs.lemmas.Bool.{eqb-true}
 use Rattle.std.proofs.lemmas.List.{take-append-drop, drop-drop}
 use Rattle.std.specs.List.{flat_map, AllByRecursion}
 use Rattle.std.specs.declared.option.Option.{Option}
 use Rattle.rif_lex.specs.declared.class.Class.{Class}
-use Rattle.rif_lex.specs.declared.class.Class.TheVariants.{White, Letter, Zero, Digit, Underscore, Minus, Question, Quote, Less, Open, Close, OpenSquare, CloseSquare, Equal, Hash, Caret, Other}
+use Rattle.rif_lex.specs.declared.class.Class.TheVariants.{White, Letter, Zero, Digit, Underscore, Minus, Question}
+use Rattle.rif_lex.specs.declared.class.Class.TheVariants.{Quote, Less, Open, Close, OpenSquare, CloseSquare, Equal}
+use Rattle.rif_lex.specs.declared.class.Class.TheVariants.{Hash, Caret, Other}
 use Rattle.rif_lex.specs.declared.token.Kind.{Kind}
-use Rattle.rif_lex.specs.declared.token.Kind.TheVariants.{Word, Curie, Local, Var, Int, Str, Iri, Open as OpenToken, Close as CloseToken, OpenSquare as OpenSquareToken, CloseSquare as CloseSquareToken, Equal as EqualToken, Hash as HashToken, HashHash, Arrow, Carets}
+use Rattle.rif_lex.specs.declared.token.Kind.TheVariants.{Word, Curie, Local, Var, Int, Str, Iri, Open as OpenToken}
+use Rattle.rif_lex.specs.declared.token.Kind.TheVariants.{Close as CloseToken, OpenSquare as OpenSquareToken}
+use Rattle.rif_lex.specs.declared.token.Kind.TheVariants.{CloseSquare as CloseSquareToken, Equal as EqualToken}
+use Rattle.rif_lex.specs.declared.token.Kind.TheVariants.{Hash as HashToken, HashHash, Arrow, Carets}
 use Rattle.rif_lex.specs.declared.piece.Piece.TheVariants.{Lexeme}
-use Rattle.rif_lex.specs.Characters.{class_at, begins, begins_name, begins_number, is_name, is_digit, is_first_digit, is_escape, is_inside_iri}
-use Rattle.rif_lex.specs.Pieces.{name_length, digits_length, longer, string_length, escaped_length, iri_length, annotation_length, token_to, named, word_to, integer_to, piece_of, piece_at}
+use Rattle.rif_lex.specs.Characters.{class_at, begins, begins_name, begins_number, is_name, is_digit, is_first_digit}
+use Rattle.rif_lex.specs.Characters.{is_escape, is_inside_iri}
+use Rattle.rif_lex.specs.Pieces.{name_length, digits_length, longer, string_length, escaped_length, iri_length}
+use Rattle.rif_lex.specs.Pieces.{annotation_length, token_to, named, word_to, integer_to, piece_of, piece_at}
 use Rattle.rif_lex.specs.Forms.{AreNames, IsNamed, IsNumber, Part, plain, escape, part_text, is_part, HasForm}
 use Rattle.rif_lex.proofs.TestLemmas.{by_test, neither, longer_one, no_lexeme}
 use Rattle.rif_lex.proofs.FitLemmas.{name_length_le, digits_length_le}
@@ -153,7 +162,8 @@ ByteOf _ b = Unit {0}
 record HasClass (c : Class) (b : ℕ) : Type 0 where
   byte : ByteOf c b
 
-either_of : (b : ℕ) (test : Bool) (x y : Class) → (test ≡ true → ByteOf x b) → HasClass y b → HasClass (cond test x y) b
+either_of : (b : ℕ) (test : Bool) (x y : Class) → (test ≡ true → ByteOf x b) → HasClass y b →
+    HasClass (cond test x y) b
 either_of b true x y first second = record { byte = first refl }
 either_of b false x y first second = second
 

@@ -1,5 +1,6 @@
 -- Choices by a test, and lengths that may be missing.
-use Rattle.std.proofs.Common.{◌≡◌, ℕ, ◌+◌, suc, refl, ap, arith, true, false, cond, Bool, ◌==◌, ◌&&◌, ◌||◌, not, Some, None}
+use Rattle.std.proofs.Common.{◌≡◌, ℕ, ◌+◌, suc, refl, ap, arith, true, false, cond, Bool, ◌==◌, ◌&&◌, ◌||◌, not, Some}
+use Rattle.std.proofs.Common.{None}
 use Rattle.std.proofs.lemmas.Bool.{eqb-true, not-true}
 use Rattle.std.specs.declared.option.Option.{Option}
 use Rattle.rif_lex.specs.declared.token.Kind.{Kind}

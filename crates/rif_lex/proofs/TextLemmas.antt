@@ -1,14 +1,19 @@
 -- Where a text of UTF-8 is cut into pieces, each is UTF-8.
-use Rattle.std.proofs.Common.{◌≡◌, ◌⊎◌, inl, inr, ℕ, ◌+◌, ◌-◌, ◌<◌, Bool, true, false, ◌||◌, nat_le, List, [], ◌∷◌, ◌++◌, length, take, drop, get_or, refl, ap, ◌∙◌, sym, subst, arith, IsUtf8, append_assoc, length-append}
+use Rattle.std.proofs.Common.{◌≡◌, ◌⊎◌, inl, inr, ℕ, ◌+◌, ◌-◌, ◌<◌, Bool, true, false, ◌||◌, nat_le, List, [], ◌∷◌}
+use Rattle.std.proofs.Common.{◌++◌, length, take, drop, get_or, refl, ap, ◌∙◌, sym, subst, arith, IsUtf8}
+use Rattle.std.proofs.Common.{append_assoc, length-append}
 use Rattle.std.specs.List.{flat_map, AllByRecursion}
 use Rattle.std.specs.Str.{IsCharBoundary}
 use Rattle.std.proofs.lemmas.Bool.Decides.{nat_tests}
 use Rattle.std.proofs.lemmas.List.{drop_at, take_at, drop-drop}
 use Rattle.std.proofs.lemmas.List.Elements.{All-from_recursion}
-use Rattle.std.proofs.lemmas.Str.{IsUtf8-take, IsUtf8-drop, IsCharBoundary-end, IsCharBoundary-before_ascii, IsCharBoundary-after_ascii}
+use Rattle.std.proofs.lemmas.Str.{IsUtf8-take, IsUtf8-drop, IsCharBoundary-end, IsCharBoundary-before_ascii}
+use Rattle.std.proofs.lemmas.Str.{IsCharBoundary-after_ascii}
 use Rattle.rif_lex.specs.declared.class.Class.TheVariants.{White, Letter}
 use Rattle.rif_lex.specs.declared.token.Kind.{Kind}
-use Rattle.rif_lex.specs.declared.token.Kind.TheVariants.{Word, Curie, Local, Var, Int, Str, Iri, Open, Close, OpenSquare, CloseSquare, Equal, Hash, HashHash, Arrow, Carets}
+use Rattle.rif_lex.specs.declared.token.Kind.TheVariants.{Word, Curie, Local, Var, Int, Str, Iri, Open, Close}
+use Rattle.rif_lex.specs.declared.token.Kind.TheVariants.{OpenSquare, CloseSquare, Equal, Hash, HashHash, Arrow}
+use Rattle.rif_lex.specs.declared.token.Kind.TheVariants.{Carets}
 use Rattle.rif_lex.specs.declared.token.Token.{Token}
 use Rattle.rif_lex.specs.declared.piece.Piece.{Piece}
 use Rattle.rif_lex.specs.declared.piece.Piece.TheVariants.{Unreadable, Blank, Lexeme}
@@ -47,7 +52,8 @@ at_seam (b ∷ more) c rest = at_seam more c rest
 
 before_name : (front rest : List ℕ) → begins_name rest ≡ false → IsCharBoundary (front ++ rest) (length front)
 before_name front [] ends =
-    subst (λ (n : ℕ). IsCharBoundary (front ++ []) n) (length-append front [] ∙ omega arith) (IsCharBoundary-end (front ++ []))
+    subst (λ (n : ℕ). IsCharBoundary (front ++ []) n) (length-append front [] ∙ omega arith)
+    (IsCharBoundary-end (front ++ []))
 before_name front (b ∷ rest) ends =
     let low : b < 128 = low_of_class b (λ is. let f : is_name (class_at b) rest ≡ true = rw is refl in cc) in
     IsCharBoundary-before_ascii (front ++ b ∷ rest) (length front) (omega (arith, length-append front (b ∷ rest)))
@@ -59,7 +65,8 @@ behind_low more c rest utf8 low =
     IsCharBoundary-after_ascii (more ++ c ∷ rest) (length more) utf8 (omega (arith, length-append more (c ∷ rest)))
     (subst (λ (d : ℕ). d < 128) (sym (at_seam more c rest)) low)
 
-boundary : (front rest : List ℕ) → IsUtf8 (front ++ rest) → MayBeCut front rest → IsCharBoundary (front ++ rest) (length front)
+boundary : (front rest : List ℕ) → IsUtf8 (front ++ rest) → MayBeCut front rest →
+    IsCharBoundary (front ++ rest) (length front)
 boundary front rest utf8 (inl ends) = before_name front rest ends
 boundary front rest utf8 (inr low) =
     let whole : front ++ rest ≡ low.0 ++ low.1 ∷ rest =
@@ -99,7 +106,8 @@ lexeme_utf8 : (k : Kind) (n : ℕ) (text : List ℕ) → piece_at text ≡ Lexem
     IsUtf8 (take n text) × IsUtf8 (drop n text)
 lexeme_utf8 k n text is utf8 =
     let at = piece_splits k n text is in
-    let parts = cut_utf8 at.front at.rest (subst IsUtf8 at.whole utf8) (token_ends k at.front at.rest at.form at.stops) in
+    let parts = cut_utf8 at.front at.rest (subst IsUtf8 at.whole utf8)
+    (token_ends k at.front at.rest at.form at.stops) in
     let left : drop n text ≡ at.rest =
     ap (drop n) at.whole ∙ drop_at at.front at.rest n (sym at.long) in
     (subst IsUtf8 (sym (split_front k n text at)) parts.0, subst IsUtf8 (sym left) parts.1)
@@ -114,7 +122,8 @@ annotation_utf8 : (text : List ℕ) (n : ℕ) → IsAnnotation text n → IsUtf8
 annotation_utf8 text n at utf8 =
     let front = 40 ∷ 42 ∷ (at.inside ++ 42 ∷ 41 ∷ []) in
     let more = 40 ∷ 42 ∷ (at.inside ++ 42 ∷ []) in
-    let seam : at.inside ++ 42 ∷ 41 ∷ [] ≡ at.inside ++ 42 ∷ [] ++ 41 ∷ [] = sym (append_assoc at.inside (42 ∷ []) (41 ∷ [])) in
+    let seam : at.inside ++ 42 ∷ 41 ∷ [] ≡ at.inside ++ 42 ∷ [] ++ 41 ∷ [] =
+    sym (append_assoc at.inside (42 ∷ []) (41 ∷ [])) in
     let whole : text ≡ front ++ at.rest =
     at.is ∙ ap (λ (x : List ℕ). 40 ∷ 42 ∷ x) (sym (append_assoc at.inside (42 ∷ 41 ∷ []) at.rest)) in
     let parts = cut_utf8 front at.rest (subst IsUtf8 whole utf8)

@@ -1,6 +1,7 @@
 ghost use Rattle.std.specs.Prelude.{◌≡◌, ◌≤◌, ◌<◌, ◌+◌, length, drop, slice_index, IfSome, IsTrue};
 ghost use Rattle.rif_lex.specs.Characters.{begins, begins_two, begins_escape, is_name, class_at};
-ghost use Rattle.rif_lex.specs.Pieces.{name_length, digits_length, string_length, iri_length, annotation_length, longer};
+ghost use Rattle.rif_lex.specs.Pieces.{name_length, digits_length, string_length, iri_length, annotation_length};
+ghost use Rattle.rif_lex.specs.Pieces.{longer};
 
 /// Whether the text has the byte at the place.
 #[inline(always)]

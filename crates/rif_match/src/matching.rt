@@ -113,7 +113,7 @@ fn row_where(row: &Binding, agrees: bool) -> Result<Option<Binding>, OutOfMemory
     }
 }
 
-/// Whether two constants are the same.
+/// Whether two constants are the same. It compares them once, texts byte by byte.
 pub fn are_same(one: &Const, other: &Const) -> bool
     ensures { result ≡ same_const one.now other.now }
 {

@@ -35,7 +35,7 @@ impl Model for Binding {
 }
 
 impl Binding {
-    /// The binding of these pairs, in constant time.
+    /// The binding of these pairs, whose variables must rise, in constant time.
     pub fn from_pairs(pairs: Listed<(u32, Const)>) -> Binding
         requires { IsBinding pairs }
         ensures { result ≡ pairs }

@@ -24,8 +24,9 @@ pub fn sorted_set<K: Ord + Drop>(alloc: Global, mut items: Vec<K>) -> Result<Lis
     Ok(Listed::from_vec(items))
 }
 
-/// The place of an item in a set, counted from 0, or else the place at which it would be put. It compares
-/// the item with as many as the logarithm of their number.
+/// The place of an item in a set, counted from 0, or else the place at which it would be put. The items of
+/// the set must stand in order, each once. It compares the item with as many as the logarithm of their
+/// number.
 pub fn find_in_set<K: Ord>(set: &[K], item: &K) -> Result<usize, usize>
     requires { IsSet K.cmp set.now }
     ensures bound { IsSearchInRange result (length set.now) }

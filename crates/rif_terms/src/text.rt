@@ -33,7 +33,7 @@ impl Model for Text {
 }
 
 impl Text {
-    /// The text of these bytes. It copies them once.
+    /// The text of these bytes, which must be UTF-8. It reads and copies them once.
     pub fn from_bytes(alloc: Global, bytes: &[u8]) -> Result<Text, OutOfMemory>
         requires { IsUtf8 bytes.now }
         ensures { IfOk result (λ text. text ≡ bytes.now) }

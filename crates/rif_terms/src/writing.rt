@@ -36,7 +36,7 @@ pub fn write_fact(alloc: Global, out: &mut Vec<u8>, fact: &Fact) -> Result<(), O
 }
 
 /// Appends a constant's text to a larger text that is in the making. After want of memory a part of it
-/// may stand there.
+/// may stand there. The cost is the text's length.
 pub fn push_const(out: &mut Vec<u8>, value: &Const) -> Result<(), OutOfMemory>
     ensures { OnOk result (out.new.items ≡ out.old.items ++ const_text value.now) }
 {
@@ -68,7 +68,7 @@ pub fn push_const(out: &mut Vec<u8>, value: &Const) -> Result<(), OutOfMemory>
 }
 
 /// Appends a fact's text to a larger text that is in the making. After want of memory a part of it may
-/// stand there.
+/// stand there. The cost is the text's length.
 pub fn push_fact(out: &mut Vec<u8>, fact: &Fact) -> Result<(), OutOfMemory>
     ensures { OnOk result (out.new.items ≡ out.old.items ++ fact_text fact.now) }
 {

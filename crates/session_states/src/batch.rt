@@ -42,14 +42,15 @@ impl Batch {
         }
     }
 
-    /// Whether these entries may be one batch.
+    /// Whether these entries may be one batch: at most 1,024, and Halt or Dispose only at the end. It looks
+    /// at each entry once at most.
     pub fn is_lawful(entries: &[Entry]) -> bool
         ensures { IsTrue result ↔ IsLawful entries.now }
     {
         entries.len() <= MOST_BATCH_ITEMS && is_ended_last(entries)
     }
 
-    /// The batch of these entries, in constant time.
+    /// The batch of these entries, for which `is_lawful` must hold, in constant time.
     pub fn from_entries(entries: Listed<Entry>) -> Batch
         requires { IsLawful entries }
         ensures { result ≡ entries }

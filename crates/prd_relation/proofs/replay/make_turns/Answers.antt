@@ -21,7 +21,8 @@ loop-fired-preserved c = λ given left replayed.
     next_empty c.args.doc.now given left c.in_ok-fired-2.fired c.loop-fired.turns.items
     c.make_turn-in-loop-fired.new.turns.items
     c.loop-fired.session c.make_turn-in-loop-fired.new.session
-    (subst (λ (fired : Bool). IsReplayed c.args.doc.now given left fired c.loop-fired.turns.items c.loop-fired.session)
+    (subst (λ (fired : Bool). IsReplayed c.args.doc.now given left fired c.loop-fired.turns.items
+    c.loop-fired.session)
     c.loop-fired-test.true (c.loop-fired.invariant given left replayed))
     (λ s shown. subst (λ (batch : List Entry). IsNextTurn c.args.doc.now s batch c.in_ok-fired-2.fired
     c.loop-fired.turns.items

@@ -1,7 +1,8 @@
 use Rattle.std.proofs.Common.{arith, ◌∙◌, ap, sym, length-take-le}
 use Rattle.std.proofs.lemmas.List.{take_rest}
 use Rattle.rif_lex.specs.Lexing.{with_front, token_at}
-use Rattle.rif_lex.proofs.LexingLemmas.{blank_more, lexeme_more, within_text, IsBehind, with_front-with_front, tokens_behind}
+use Rattle.rif_lex.proofs.LexingLemmas.{blank_more, lexeme_more, within_text, IsBehind, with_front-with_front}
+use Rattle.rif_lex.proofs.LexingLemmas.{tokens_behind}
 use Rattle.rif_lex.proofs.LineLemmas.{lexeme_in_line}
 use Rattle.rif_lex.proofs.lexer.push_tokens.Goals as goal
 
