@@ -50,7 +50,7 @@ mod writing;
 pub use behind::Behind;
 pub use document::{read_doc, read_parts};
 pub use explaining::{explain, explain_line};
-pub use laws::{canonical_is_read_back, one_outcome};
+pub use laws::{canonical_is_read_back, canonical_is_separate, one_outcome};
 pub use leaf::{Builtin, BuiltinName, Keyword, Leaf, Literal};
 pub use prefixes::Prefixes;
 pub use token_leaf::leaf_at;
