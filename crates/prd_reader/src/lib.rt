@@ -14,7 +14,7 @@
 //! | `building.rt` | the document of leaves | `specs/Values.antt`, `specs/Building.antt` |
 //! | `writing.rt` | `write_doc`: the canonical text | `specs/Canonical.antt` |
 //! | `explaining.rt`, `wanted.rt`, `excerpt.rt` | refusals in words | none |
-//! | `laws.rt` | laws of the definitions | `specs/Documents.antt`, `specs/ReadBack.antt` |
+//! | `laws.rt` | laws of the definitions | `specs/Documents.antt`, `specs/ReadBack.antt`, `specs/Separate.antt` |
 //!
 //! Begin at `read_parts`.
 #![tactic(auto)]
