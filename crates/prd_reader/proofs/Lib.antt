@@ -86,3 +86,4 @@ pub mod SoundDocumentLemmas
 pub mod FittingLemmas
 pub mod CanonicalClearLemmas
 pub mod ReadBackLemmas
+pub mod SeparateLaws

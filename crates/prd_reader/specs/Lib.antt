@@ -21,4 +21,5 @@ pub mod Writing
 pub mod Writable
 pub mod CanonicalTrees
 pub mod ReadBack
+pub mod Separate
 pub mod WritableLeaves

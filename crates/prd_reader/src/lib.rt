@@ -14,7 +14,7 @@
 //! | `building.rt` | the document of leaves | `specs/Values.antt`, `specs/Building.antt` |
 //! | `writing.rt` | `write_doc`: the canonical text | `specs/Canonical.antt` |
 //! | `explaining.rt`, `wanted.rt`, `excerpt.rt` | refusals in words | none |
-//! | `laws.rt` | laws of the definitions | `specs/Documents.antt`, `specs/ReadBack.antt` |
+//! | `laws.rt` | laws of the definitions | `specs/Documents.antt`, `specs/ReadBack.antt`, `specs/Separate.antt` |
 //!
 //! Begin at `read_parts`.
 #![tactic(auto)]
@@ -50,7 +50,7 @@ mod writing;
 pub use behind::Behind;
 pub use document::{read_doc, read_parts};
 pub use explaining::{explain, explain_line};
-pub use laws::{canonical_is_read_back, one_outcome};
+pub use laws::{canonical_is_read_back, canonical_is_separate, one_outcome};
 pub use leaf::{Builtin, BuiltinName, Keyword, Leaf, Literal};
 pub use prefixes::Prefixes;
 pub use token_leaf::leaf_at;

@@ -1,7 +1,7 @@
 -- The client of a name among those that are known, and a script's next line.
 use Rattle.std.proofs.Common.{◌≡◌, ◌≢◌, ◌∙◌, ◌==◌, sym, subst, ap, refl, ℕ, ◌+◌, ◌<◌, ◌≤◌, nat_le, nat_lt, not, ◌&&◌}
-use Rattle.std.proofs.Common.{suc, Bool, true, false, List, [], ◌∷◌, ◌++◌, take, drop, length, length-drop, arith, inl}
-use Rattle.std.proofs.Common.{inr}
+use Rattle.std.proofs.Common.{suc, Bool, true, false, List, [], ◌∷◌, ◌++◌, take, drop, length, length-drop, arith}
+use Rattle.std.proofs.Common.{inl, inr}
 use Rattle.std.specs.Prelude.{Ok, Err}
 use Rattle.std.specs.declared.result.Result.{Result}
 use Rattle.std.proofs.lemmas.Bool.Decides.{nat_tests}
@@ -98,7 +98,8 @@ sent_by_steps at s one = elim (either (nat_lt MOST_BUDGETS (s.budgets + budget_o
 
 -- an answer to the steps is one to the whole
 pub answers_steps : (result : Result Script Fault) (at : ℕ) (s : Script) (one : List ℕ × Item) (budgets : ℕ) →
-    room_for at s one.1 ≡ Ok budgets → Answers result (with_room at s one budgets) → Answers result (with_sent at s one)
+    room_for at s one.1 ≡ Ok budgets → Answers result (with_room at s one budgets) →
+    Answers result (with_sent at s one)
 answers_steps result at s one budgets room answers =
     subst (Answers result)
     (sym (sent_by_steps at s one ∙ ap (λ (r : Result ℕ Refusal). and_then r (with_room at s one)) room)) answers
@@ -151,7 +152,8 @@ module _ (prefixes : Prefixes) (at : ℕ) (s : Script) (rest line behind : List 
   line_ends all OutOfMemory so_far refused = tt
   line_ends all (Refused refusal) so_far refused =
       so_far ∙ (one_line
-      ∙ ap (λ (r : Result Script Refusal). and_then r (λ x. with_lines prefixes (suc at) x (lines_of behind))) refused)
+      ∙ ap (λ (r : Result Script Refusal). and_then r (λ x. with_lines prefixes (suc at) x (lines_of behind)))
+      refused)
 
 -- each line is a byte at least
 pub less_is_left : (rest behind : List ℕ) → rest ≢ [] → behind ≡ drop (line_length rest) rest →

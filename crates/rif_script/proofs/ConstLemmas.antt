@@ -1,6 +1,7 @@
 -- Constants: what is read is spelled so, and what is spelled so is read.
-use Rattle.std.proofs.Common.{◌≡◌, ◌∙◌, sym, subst, ap, refl, ℕ, ◌≤◌, zero, suc, Bool, true, false, ◌||◌, List, [], ◌∷◌}
-use Rattle.std.proofs.Common.{◌++◌, append_assoc, append-nil, Option, Some, None, drop, length, length-append, arith}
+use Rattle.std.proofs.Common.{◌≡◌, ◌∙◌, sym, subst, ap, refl, ℕ, ◌≤◌, zero, suc, Bool, true, false, ◌||◌, List, []}
+use Rattle.std.proofs.Common.{◌∷◌, ◌++◌, append_assoc, append-nil, Option, Some, None, drop, length, length-append}
+use Rattle.std.proofs.Common.{arith}
 use Rattle.std.proofs.Common.{◌⊎◌, inl, inr}
 use Rattle.std.specs.List.{list_any}
 use Rattle.rif_terms.specs.declared.constant.Const.{Const}
@@ -15,8 +16,9 @@ use Rattle.prd_reader.specs.declared.leaf.Leaf.TheVariants.{Key, Int, Str, Typed
 use Rattle.prd_reader.specs.declared.leaf.Leaf.TheVariants.{Carets}
 use Rattle.prd_reader.specs.FactForm.{HasNoRefusal, is_refused, ConstTrees, no_consts, consts, terms_of_consts}
 use Rattle.prd_reader.specs.FactForm.{consts_value}
-use Rattle.prd_reader.specs.Trees.{ConstTree, const_int, const_string, const_typed, const_iri, const_curie, const_local}
-use Rattle.prd_reader.specs.Trees.{const_true, const_false, spell_const, NameTree, name_iri, name_curie, name_local}
+use Rattle.prd_reader.specs.Trees.{ConstTree, const_int, const_string, const_typed, const_iri, const_curie}
+use Rattle.prd_reader.specs.Trees.{const_local, const_true, const_false, spell_const, NameTree, name_iri, name_curie}
+use Rattle.prd_reader.specs.Trees.{name_local}
 use Rattle.prd_reader.specs.Trees.{name_typed_iri, name_typed_local, const_of_name, spell_terms}
 use Rattle.prd_reader.specs.Values.{const_value, literal_value}
 use Rattle.rif_script.specs.ReadingItems.{◌>>=◌, begins_close, const_behind, const_from, consts_from, is_name}
@@ -114,7 +116,12 @@ typed_front (Boolean b) c rest given =
       value = some_same (BoolConst b) c given;
     }
 typed_front (String t) c rest given =
-    record { tree = const_typed (String t) true; spelled = refl; clear = refl; value = some_same (StrConst t) c given }
+    record {
+      tree = const_typed (String t) true;
+      spelled = refl;
+      clear = refl;
+      value = some_same (StrConst t) c given;
+    }
 typed_front (IriLiteral t) c rest given =
     record {
       tree = const_typed (IriLiteral t) true;
@@ -147,7 +154,8 @@ leaf_read (Typed literal) ls c rest given =
     let same = found_same found.0 c past.0 rest found.2 in
     let value = found.1 ∙ ap (λ (x : Const). Some x) same.0 in
     let behind = past_is ls past.0 past.1 ∙ ap (λ (xs : List Leaf). Carets ∷ TypeName true ∷ xs) same.1 in
-    subst (λ (xs : List Leaf). IsConstFront (Typed literal ∷ xs) c rest) (sym behind) (typed_front literal c rest value)
+    subst (λ (xs : List Leaf). IsConstFront (Typed literal ∷ xs) c rest) (sym behind)
+    (typed_front literal c rest value)
 leaf_read _ ls c rest given = absurd (cc)
 
 pub const_read : (ls : List Leaf) (c : Const) (rest : List Leaf) → const_from ls ≡ Some (c, rest) →
@@ -292,7 +300,8 @@ some_leaf (const_local t) = omega arith
 some_leaf const_true = omega arith
 some_leaf const_false = omega arith
 
-pub consts_again : (trees : ConstTrees) (n : ℕ) (rest : List Leaf) → length (spell_terms (terms_of_consts trees)) ≤ n →
+pub consts_again : (trees : ConstTrees) (n : ℕ) (rest : List Leaf) →
+    length (spell_terms (terms_of_consts trees)) ≤ n →
     HasNoRefusal (spell_terms (terms_of_consts trees)) →
     consts_from n (spell_terms (terms_of_consts trees) ++ rest) ≡ Some (consts_value trees, rest)
 unfolding consts_from

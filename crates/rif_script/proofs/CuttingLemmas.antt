@@ -121,7 +121,8 @@ ends_no_batch Dispose h = cc
 ends_last : (begun : List Entry) (entry : Entry) → AreChanges begun → EndsLast (begun ++ entry ∷ [])
 ends_last [] entry changes = tt
 ends_last (e ∷ []) entry changes = (ends_no_batch e.item changes.0, tt)
-ends_last (e ∷ next ∷ begun) entry changes = (ends_no_batch e.item changes.0, ends_last (next ∷ begun) entry changes.1)
+ends_last (e ∷ next ∷ begun) entry changes =
+    (ends_no_batch e.item changes.0, ends_last (next ∷ begun) entry changes.1)
 
 changes_last : (begun : List Entry) → AreChanges begun → EndsLast begun
 changes_last [] changes = tt

@@ -11,8 +11,9 @@ use Rattle.prd_reader.specs.declared.leaf.Leaf.TheVariants.{Int, Open, OpenSquar
 use Rattle.prd_reader.specs.FactForm.{HasNoRefusal, ConstTrees, terms_of_consts, consts_value, FactTree, fact_member}
 use Rattle.prd_reader.specs.FactForm.{fact_frame, fact_atom, spell_fact, fact_value, IsConstForm, IsConstsForm}
 use Rattle.prd_reader.specs.FactForm.{IsFactForm, IsNumberForm}
-use Rattle.prd_reader.specs.Trees.{ConstTree, const_int, const_string, const_typed, const_iri, const_curie, const_local}
-use Rattle.prd_reader.specs.Trees.{const_true, const_false, spell_const, NameTree, const_of_name, spell_name}
+use Rattle.prd_reader.specs.Trees.{ConstTree, const_int, const_string, const_typed, const_iri, const_curie}
+use Rattle.prd_reader.specs.Trees.{const_local, const_true, const_false, spell_const, NameTree, const_of_name}
+use Rattle.prd_reader.specs.Trees.{spell_name}
 use Rattle.prd_reader.specs.Trees.{spell_terms}
 use Rattle.prd_reader.specs.Values.{const_value}
 use Rattle.rif_script.specs.ReadingItems.{atom_from, const_from, consts_from, fact_behind, fact_from, fact_with}
@@ -77,7 +78,8 @@ frame_read o ls fact clear given =
     let after = close_square_is v.0.1 rest.0 rest.1 ∙ ap (λ (xs : List Leaf). CloseSquare ∷ xs) end.0 in
     let inside = ap (λ (xs : List Leaf). spell_const value.tree ++ xs) (sym after) ∙ value.spelled in
     let all = ap (λ (xs : List Leaf). spell_const slot.tree ++ Arrow ∷ xs) inside
-    ∙ (ap (λ (xs : List Leaf). spell_const slot.tree ++ xs) (sym (arrow_is s.0.1 behind.0 behind.1)) ∙ slot.spelled) in
+    ∙ (ap (λ (xs : List Leaf). spell_const slot.tree ++ xs) (sym (arrow_is s.0.1 behind.0 behind.1))
+    ∙ slot.spelled) in
     record {
       tree = fact_frame o slot.tree value.tree;
       spelled = ap (λ (xs : List Leaf). spell_const o ++ OpenSquare ∷ xs) all;

@@ -1,7 +1,7 @@
--- Jobs from their parts: what is read of an input's document and of its script is the job, and what refuses one of the
--- two refuses the input.
-use Rattle.std.proofs.Common.{◌≡◌, refl, subst, ap, ℕ, ◌+◌, ◌≤◌, ◌<◌, ◌^◌, ◌==◌, suc, Bool, true, false, cond, List, []}
-use Rattle.std.proofs.Common.{◌∷◌, drop, length, length-drop, arith, inl, inr}
+-- Jobs from their parts: what is read of an input's document and of its script is the job, and what refuses one of
+-- the two refuses the input.
+use Rattle.std.proofs.Common.{◌≡◌, refl, subst, ap, ℕ, ◌+◌, ◌≤◌, ◌<◌, ◌^◌, ◌==◌, suc, Bool, true, false, cond, List}
+use Rattle.std.proofs.Common.{[], ◌∷◌, drop, length, length-drop, arith, inl, inr}
 use Rattle.std.specs.Prelude.{Ok, Err, IfErr, IfOk}
 use Rattle.std.specs.Str.{IsValidUpTo}
 use Rattle.std.specs.declared.result.Result.{Result}
@@ -102,8 +102,8 @@ pub text_read : (text : List ℕ) (tokens : List Token) (r : Result (Doc × Pref
 text_read text tokens (Ok parts) is read = (tokens, is, read)
 text_read text tokens (Err fault) is read = tt
 
-pub text_refused : (text : List ℕ) (tokens : List Token) (r : Result (Doc × Prefixes) Fault) → lexed text ≡ Ok tokens →
-    IfErr r (RefusesDocument tokens text) → IfErr r (RefusesText text)
+pub text_refused : (text : List ℕ) (tokens : List Token) (r : Result (Doc × Prefixes) Fault) →
+    lexed text ≡ Ok tokens → IfErr r (RefusesDocument tokens text) → IfErr r (RefusesText text)
 text_refused text tokens (Ok parts) is refused = tt
 text_refused text tokens (Err fault) is refused = unread text tokens fault is refused
 

@@ -8,8 +8,9 @@ use Rattle.session_states.specs.Batches.{IsLawful}
 use Rattle.rif_script.specs.Cutting.{batches_behind, ends_behind, is_control, is_dispose, served_count, with_first}
 use Rattle.rif_script.specs.CuttingLaws.{AreEnded, AreCutLawfully, ControlsLast, CutEndsBatches, CutIsLawful}
 use Rattle.rif_script.specs.CuttingLaws.{CutKeepsAll, joined, last_passes}
-use Rattle.rif_script.proofs.CuttingLemmas.{AreChanges, AreChanges-snoc, batches_after, batches_where, closes, goes_on}
-use Rattle.rif_script.proofs.CuttingLemmas.{joined_first-alone, lawful_begun, lawful_closed, neither, room_joined}
+use Rattle.rif_script.proofs.CuttingLemmas.{AreChanges, AreChanges-snoc, batches_after, batches_where, closes}
+use Rattle.rif_script.proofs.CuttingLemmas.{goes_on, joined_first-alone, lawful_begun, lawful_closed, neither}
+use Rattle.rif_script.proofs.CuttingLemmas.{room_joined}
 
 take-drop : (n : ℕ) (entries : List Entry) → take n entries ++ drop n entries ≡ entries
 take-drop zero entries = refl
@@ -117,7 +118,8 @@ lawful_from begun (entry ∷ entries) last room changes =
     (lawful_from (begun ++ entry ∷ []) entries rest) room changes
 
 pub cut_is_lawful : CutIsLawful
-cut_is_lawful entries = lawful_from [] (take (served_count entries) entries) (served_disposes_last entries) (lit< tt) tt
+cut_is_lawful entries =
+    lawful_from [] (take (served_count entries) entries) (served_disposes_last entries) (lit< tt) tt
 
 controls_last : (begun : List Entry) (entry : Entry) → AreChanges begun → ControlsLast (begun ++ entry ∷ [])
 controls_last [] entry changes = tt

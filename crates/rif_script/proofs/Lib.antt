@@ -20,3 +20,5 @@ pub mod FirstLeafLemmas
 pub mod ConstListLemmas
 pub mod SimpleLemmas
 pub mod CallerLemmas
+pub mod PlainLineLemmas
+pub mod CheckedTextLemmas

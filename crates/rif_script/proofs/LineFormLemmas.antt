@@ -344,6 +344,7 @@ line_again prefixes line (Some sent) form =
     rw (form.0, form.1.lexed, all) refl
 
 -- a line of which nothing is read is none of the forms
-pub no_line : (prefixes : Prefixes) (line : List ℕ) → line_at prefixes line ≡ None → (given : Option (List ℕ × Item)) →
+pub no_line : (prefixes : Prefixes) (line : List ℕ) → line_at prefixes line ≡ None →
+    (given : Option (List ℕ × Item)) →
     IsLine prefixes line given → ⊥
 no_line prefixes line none given is = let again = line_again prefixes line given is in cc

@@ -57,7 +57,8 @@ place_stays (n ∷ ns) more v has = elim (either (bytes_eq n v)) [
   | inr other ↦ rw other (ap suc (place_stays ns more v (one_of (bytes_eq n v) (has_name ns v) has other)))
 ]
 
-pub name_stays : (names more : List (List ℕ)) (v : List ℕ) → has_name names v ≡ true → has_name (names ++ more) v ≡ true
+pub name_stays : (names more : List (List ℕ)) (v : List ℕ) → has_name names v ≡ true →
+    has_name (names ++ more) v ≡ true
 name_stays [] more v has = absurd (cc)
 name_stays (n ∷ ns) more v has = elim (either (bytes_eq n v)) [
   | inl is ↦ rw is refl
@@ -106,7 +107,8 @@ names_grow names (one ∷ rest) = elim (either (has_name names one.0)) [
       )
 ]
 
-pub more_names : (names : List (List ℕ)) (sent : List (List ℕ × Item)) → length names ≤ length (names_after names sent)
+pub more_names : (names : List (List ℕ)) (sent : List (List ℕ × Item)) →
+    length names ≤ length (names_after names sent)
 more_names names sent =
     let later = names_grow names sent in
     let size : length (names_after names sent) ≡ length names + length later.0 =
@@ -182,7 +184,8 @@ new_left_out known (n ∷ ns) v = elim (either (bytes_eq v n)) [
   ]
   | inr other ↦ elim (either (has_name known n)) [
     | inl here ↦ rw (has_last known v n, here, other, here) (new_left_out known ns v)
-    | inr new ↦ rw (has_last known v n, new, other, new) (ap (λ (xs : List (List ℕ)). n ∷ xs) (new_left_out known ns v))
+    | inr new ↦
+        rw (has_last known v n, new, other, new) (ap (λ (xs : List (List ℕ)). n ∷ xs) (new_left_out known ns v))
   ]
 ]
 
@@ -207,7 +210,8 @@ pub names_are_first : (sent : List (List ℕ × Item)) → names_after [] sent �
 names_are_first sent = known_and_new [] sent ∙ all_new (names_of sent)
 
 -- each item is of one of the clients
-clients_by : (names : List (List ℕ)) (sent : List (List ℕ × Item)) (most : ℕ) → length (names_after names sent) ≤ most →
+clients_by : (names : List (List ℕ)) (sent : List (List ℕ × Item)) (most : ℕ) →
+    length (names_after names sent) ≤ most →
     AllByRecursion (λ (one : ℕ × Item). one.0 < most) (numbered_from names sent)
 clients_by names [] most few = tt
 clients_by names (one ∷ rest) most few =

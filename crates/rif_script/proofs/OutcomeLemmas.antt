@@ -43,8 +43,8 @@ text_is_valid bytes at utf8 valid =
     (subst IsUtf8 (sym (take_all (length bytes) bytes (omega arith))) utf8)
 
 -- a script and a refusal of the same lines
-script_or_refusal : (p q : Prefixes) (lines : List (List ℕ)) (at : ℕ) (names : List (List ℕ)) (items : List (ℕ × Item))
-    (refusal : Refusal) → p ≡ q → IsScript p lines names items → IsScriptRefusal q lines at refusal → ⊥
+script_or_refusal : (p q : Prefixes) (lines : List (List ℕ)) (at : ℕ) (names : List (List ℕ))
+    (items : List (ℕ × Item)) (refusal : Refusal) → p ≡ q → IsScript p lines names items → IsScriptRefusal q lines at refusal → ⊥
 script_or_refusal p q lines at names items refusal same script refused =
     let s = script_again p at lines names items script in
     let r = refused_again q at lines refusal refused in
@@ -85,7 +85,8 @@ module _ (documents : OneDocument) (bytes : List ℕ) where
   -- what refuses an input that is UTF-8
   abbrev Refuses : Refusal → Type 0
   Refuses refusal =
-      (lexed (document_text bytes) ≡ Err refusal) ⊎ (HasDocumentRefusal bytes refusal ⊎ HasScriptRefusal bytes refusal)
+      (lexed (document_text bytes) ≡ Err refusal)
+      ⊎ (HasDocumentRefusal bytes refusal ⊎ HasScriptRefusal bytes refusal)
 
   text_refusals : (a b : Refusal) → Refuses a → Refuses b → a ≡ b
   text_refusals a b (inl x) (inl y) = same_err (lexed (document_text bytes)) a b x y

@@ -36,7 +36,8 @@ same_entry c k r q i j same_client same_rank same_item = cc
 pub made_more : (all entries more : List Entry) (items : List (ℕ × Item)) (i : ℕ) (sent : ℕ × Item) (rank : ℕ)
     (item : Item) →
     i < length items → sent ≡ get_or items i sent → rank ≡ sent_count sent.0 (take i items) → item ≡ sent.1 →
-    more ≡ entries ++ entry_with sent.0 rank item ∷ [] → entries ++ entries_after (take i items) (drop i items) ≡ all →
+    more ≡ entries ++ entry_with sent.0 rank item ∷ [] →
+    entries ++ entries_after (take i items) (drop i items) ≡ all →
     more ++ entries_after (take (i + 1) items) (drop (i + 1) items) ≡ all
 made_more all entries more items i sent rank item lt is ranks copied pushed so_far =
     let rest = entries_after (take (i + 1) items) (drop (i + 1) items) in

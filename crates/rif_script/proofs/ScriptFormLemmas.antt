@@ -1,6 +1,7 @@
 -- Scripts: what is read is of that form, and what is of that form is read; and so with what is refused.
-use Rattle.std.proofs.Common.{◌≡◌, ◌∙◌, sym, subst, ap, refl, ℕ, ◌+◌, ◌<◌, ◌≤◌, nat_le, nat_lt, not, ◌&&◌, true, false}
-use Rattle.std.proofs.Common.{cond, List, [], ◌∷◌, ◌++◌, append_assoc, append-nil, Some, length, length-append, arith}
+use Rattle.std.proofs.Common.{◌≡◌, ◌∙◌, sym, subst, ap, refl, ℕ, ◌+◌, ◌<◌, ◌≤◌, nat_le, nat_lt, not, ◌&&◌, true}
+use Rattle.std.proofs.Common.{false, cond, List, [], ◌∷◌, ◌++◌, append_assoc, append-nil, Some, length, length-append}
+use Rattle.std.proofs.Common.{arith}
 use Rattle.std.proofs.Common.{inl, inr}
 use Rattle.std.specs.Prelude.{Ok, Err}
 use Rattle.std.specs.declared.result.Result.{Result}
@@ -154,7 +155,8 @@ with_sent_is at sent one within =
     ap (nat_lt MOST_BUDGETS) (budget_more sent one) in
     let items : nat_le MOST_ITEMS (length (script_of sent).items) ≡ nat_lt MOST_ITEMS (length (sent ++ one ∷ [])) =
     full_is MOST_ITEMS (length (script_of sent).items) ∙ ap (nat_lt MOST_ITEMS) (count_more sent one) in
-    let clients : (not (has_name (script_of sent).names one.0) && nat_le MOST_CLIENTS (length (script_of sent).names)) ≡
+    let clients :
+    (not (has_name (script_of sent).names one.0) && nat_le MOST_CLIENTS (length (script_of sent).names)) ≡
     nat_lt MOST_CLIENTS (length (names_of (sent ++ one ∷ []))) =
     name_count (script_of sent).names one.0 MOST_CLIENTS few
     ∙ ap (λ (ns : List (List ℕ)). nat_lt MOST_CLIENTS (length ns)) (names_more sent one) in

@@ -1,11 +1,13 @@
--- The lines of a script one after another: what is read of them is their script, and what refuses them is its refusal.
+-- The lines of a script one after another: what is read of them is their script, and what refuses them is its
+-- refusal.
 use Rattle.std.proofs.Common.{◌≡◌, ◌∙◌, sym, subst, ap, refl, ℕ, ◌+◌, ◌<◌, suc, List, [], ◌∷◌, ◌++◌, append_assoc}
 use Rattle.std.proofs.Common.{append-nil, Option, Some, None, length, length-append, arith, All, ◌⊎◌, inl, inr}
 use Rattle.std.specs.Prelude.{Ok, Err}
 use Rattle.std.specs.declared.result.Result.{Result}
 use Rattle.rif_terms.specs.declared.limits.TheConstants.{MOST_CLIENTS, MOST_ITEMS, MOST_BUDGETS}
 use Rattle.rif_terms.specs.declared.refusal.Refusal.{Refusal}
-use Rattle.rif_terms.specs.declared.refusal.Refusal.TheVariants.{BadLine, BudgetTooLarge, TooManyItems, TooManyClients}
+use Rattle.rif_terms.specs.declared.refusal.Refusal.TheVariants.{BadLine, BudgetTooLarge, TooManyItems}
+use Rattle.rif_terms.specs.declared.refusal.Refusal.TheVariants.{TooManyClients}
 use Rattle.prd_reader.specs.Prefixes.{Prefixes}
 use Rattle.session_states.specs.declared.item.Item.{Item}
 use Rattle.rif_script.specs.declared.script.Script.{Script}
@@ -15,8 +17,9 @@ use Rattle.rif_script.specs.Jobs.{names_of, numbered_items, sent_by}
 use Rattle.rif_script.specs.ReadingLines.{and_then, line_at, no_lines, with_given, with_line, with_lines}
 use Rattle.rif_script.proofs.LineFormLemmas.{line_again, line_read, no_line}
 use Rattle.rif_script.proofs.NumberingLemmas.{all_of_clients, more_names, names_after}
-use Rattle.rif_script.proofs.ScriptFormLemmas.{above_is, above_isnt, after_joined, final_items, final_names, limits_err}
-use Rattle.rif_script.proofs.ScriptFormLemmas.{limits_keep, limits_of, limits_ok, names_are, script_of, with_sent_is}
+use Rattle.rif_script.proofs.ScriptFormLemmas.{above_is, above_isnt, after_joined, final_items, final_names}
+use Rattle.rif_script.proofs.ScriptFormLemmas.{limits_err, limits_keep, limits_of, limits_ok, names_are, script_of}
+use Rattle.rif_script.proofs.ScriptFormLemmas.{with_sent_is}
 
 -- what one line sends
 abbrev sent_one : Option (List ℕ × Item) → List (List ℕ × Item)
@@ -76,7 +79,8 @@ module _ (prefixes : Prefixes) (at : ℕ) (sent : List (List ℕ × Item)) (line
   unfolding with_line
   line_err refusal given = found_err (line_at prefixes line) refusal refl given
 
-  line_keep : (given : Option (List ℕ × Item)) → IsLine prefixes line given → IsWithinLimits (sent ++ sent_one given) →
+  line_keep : (given : Option (List ℕ × Item)) → IsLine prefixes line given →
+      IsWithinLimits (sent ++ sent_one given) →
       with_line prefixes at (script_of sent) line ≡ Ok (script_of (sent ++ sent_one given))
   unfolding with_line
   line_keep None is few =
@@ -219,7 +223,8 @@ lines_err prefixes at sent (line ∷ lines) refusal within given =
             within = same_limits (all ++ sent_by more.given) (sent ++ sent_by (here.given ∷ more.given))
                 same more.within;
             faulty = subst
-                (λ (xs : List (List ℕ × Item)). IsFaulty prefixes xs more.line (at + suc (length more.before)) refusal)
+                (λ (xs : List (List ℕ × Item)).
+                IsFaulty prefixes xs more.line (at + suc (length more.before)) refusal)
                 same
                 (subst (λ (n : ℕ). IsFaulty prefixes (all ++ sent_by more.given) more.line n refusal)
                 number more.faulty);

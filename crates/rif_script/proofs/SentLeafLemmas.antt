@@ -47,7 +47,8 @@ behind_prefix : (l : Leaf) (f g : List Leaf) → AreAlike f g → is_behind_pref
 behind_prefix OpenLeaf f g alike = alike.open_prefix
 behind_prefix _ f g alike = refl
 
-behind_external : (l : Leaf) (f g : List Leaf) → AreAlike f g → is_behind_external (l ∷ f) ≡ is_behind_external (l ∷ g)
+behind_external : (l : Leaf) (f g : List Leaf) → AreAlike f g →
+    is_behind_external (l ∷ f) ≡ is_behind_external (l ∷ g)
 behind_external OpenLeaf f g alike = alike.open_external
 behind_external _ f g alike = refl
 
@@ -173,8 +174,8 @@ all_read p bytes tokens at within none =
     omega (arith, size, zero_, within)
 
 -- the next leaf, and those behind it
-pub next_leaf : (p : Prefixes) (f : List Leaf) (bytes : List ℕ) (tokens : List Token) (at : ℕ) (d : Token) (l : Leaf) →
-    at < length tokens →
+pub next_leaf : (p : Prefixes) (f : List Leaf) (bytes : List ℕ) (tokens : List Token) (at : ℕ) (d : Token)
+    (l : Leaf) → at < length tokens →
     l ≡ leaf_of p f (written bytes (get_or tokens at d)) (map (written bytes) (drop (at + 1) tokens)) →
     leaves_from p f (map (written bytes) (drop at tokens))
     ≡ l ∷ leaves_from (prefixes_with p f l) (l ∷ f) (map (written bytes) (drop (at + 1) tokens))

@@ -1,6 +1,6 @@
 -- The lines of a text, one after another.
-use Rattle.std.proofs.Common.{◌≡◌, ◌≢◌, ◌<◌, ◌-◌, length-drop, ◌∙◌, sym, ap, refl, ℕ, ◌+◌, ◌==◌, ◌≤◌, subst, arith, suc}
-use Rattle.std.proofs.Common.{Bool, true, false, cond, List, [], ◌∷◌, ◌++◌, append_assoc, take, drop, length}
+use Rattle.std.proofs.Common.{◌≡◌, ◌≢◌, ◌<◌, ◌-◌, length-drop, ◌∙◌, sym, ap, refl, ℕ, ◌+◌, ◌==◌, ◌≤◌, subst, arith}
+use Rattle.std.proofs.Common.{suc, Bool, true, false, cond, List, [], ◌∷◌, ◌++◌, append_assoc, take, drop, length}
 use Rattle.std.proofs.Math.Seq.{take-add}
 use Rattle.std.proofs.lemmas.List.{drop-drop, length-take, take_all}
 use Rattle.rif_script.specs.Jobs.{document_text, is_separator, lines_before, lines_of, script_lines, with_byte}
@@ -18,7 +18,8 @@ pub first_of_lines : (text : List ℕ) → text ≢ [] →
 first_of_lines [] some_ = absurd (some_ refl)
 first_of_lines (b ∷ bs) some_ =
     elim (b == 10) as (λ (is : Bool). cond is ((b ∷ []) ∷ lines_of bs) (with_byte b (lines_of bs))
-    ≡ take (cond is 1 (suc (line_length bs))) (b ∷ bs) ∷ lines_of (drop (cond is 1 (suc (line_length bs))) (b ∷ bs))) [
+    ≡ take (cond is 1 (suc (line_length bs))) (b ∷ bs)
+    ∷ lines_of (drop (cond is 1 (suc (line_length bs))) (b ∷ bs))) [
       | true ↦ refl
       | false ↦ longer_line b bs (first_of_lines bs)
     ]

@@ -18,8 +18,8 @@ use Rattle.rif_script.specs.CuttingLaws.{CountUp, joined, script_of}
 use Rattle.rif_script.specs.Lines.{entry_line, item_text, name_at}
 use Rattle.rif_script.specs.Trace.{act_text, act_word, effect_text, end_line, pick_text, run_text, turn_text}
 use Rattle.rif_script.specs.Trace.{turns_text}
-use Rattle.rif_script.specs.TraceLaws.{AreKnown, AreTurns, FollowsScripts, HasClientNames, HasNoSpace, SameTextSameRun}
-use Rattle.rif_script.specs.TraceLaws.{turns_behind}
+use Rattle.rif_script.specs.TraceLaws.{AreKnown, AreTurns, FollowsScripts, HasClientNames, HasNoSpace}
+use Rattle.rif_script.specs.TraceLaws.{SameTextSameRun, turns_behind}
 
 -- how many of the entries are a client's
 abbrev count_of : ℕ → List Entry → ℕ
@@ -52,8 +52,8 @@ entry_line-rest : (word : List ℕ) (job : Job) (e : Entry) (rest : List ℕ) �
     entry_line word job.names e ++ rest ≡ word ++ 32 ∷ line_rest job e rest
 entry_line-rest word job e rest = simp append_assoc
 
-same_entry : (job : Job) (before : List Entry) (d e : Entry) (ds es : List Entry) (r q : List ℕ) → HasClientNames job →
-    Continue job before (d ∷ ds) → Continue job before (e ∷ es) →
+same_entry : (job : Job) (before : List Entry) (d e : Entry) (ds es : List Entry) (r q : List ℕ) →
+    HasClientNames job → Continue job before (d ∷ ds) → Continue job before (e ∷ es) →
     line_rest job d r ≡ line_rest job e q → d ≡ e
 same_entry job before d e ds es r q j h k same =
     let name = same_name (name_at job.names d.client) (name_at job.names e.client) _ _ (j.plain d.client h.0)
@@ -236,7 +236,8 @@ record GoesOn (job : Job) (before es : List Entry) : Type 0 where
 own_items : (job : Job) (before es : List Entry) (e : Entry) (c : ℕ) → e.client == c ≡ true →
     (g : GoesOn job before (e ∷ es)) →
     e.item ∷ (items_of c es ++ (g.items c).0) ≡ drop (count_of c before) (script_of c job.items)
-own_items job before es e c own g = ap (λ (b : Bool). cond b (e.item ∷ items_of c es) (items_of c es) ++ (g.items c).0)
+own_items job before es e c own g =
+    ap (λ (b : Bool). cond b (e.item ∷ items_of c es) (items_of c es) ++ (g.items c).0)
     (sym own) ∙ (g.items c).1
 
 later_items : (job : Job) (before es : List Entry) (e : Entry) (c : ℕ) (is : Bool) → e.client == c ≡ is →

@@ -3,8 +3,8 @@
 --     batches_of_entries es       the batches of a script's entries
 --     left_of_entries es          the entries behind the first Dispose
 -- Source: the project's own (docs/PROFILE.md, "Replay").
-use Rattle.std.specs.Prelude.{suc, ◌<◌, ◌+◌, ◌==◌, ◌||◌, ℕ, Bool, true, false, List, [], ◌∷◌, ◌++◌, All, count_by, drop}
-use Rattle.std.specs.Prelude.{if◌then◌else◌, length, take}
+use Rattle.std.specs.Prelude.{suc, ◌<◌, ◌+◌, ◌==◌, ◌||◌, ℕ, Bool, true, false, List, [], ◌∷◌, ◌++◌, All, count_by}
+use Rattle.std.specs.Prelude.{drop, if◌then◌else◌, length, take}
 use Rattle.rif_terms.specs.declared.limits.TheConstants.{MOST_BATCH_ITEMS}
 use Rattle.session_states.specs.declared.item.Item.{Item}
 use Rattle.session_states.specs.declared.item.Item.TheVariants.{Change, Fire, Until, Halt, Dispose}

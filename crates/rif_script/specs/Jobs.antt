@@ -12,8 +12,8 @@
 --     OneOutcome                  law: an input is one of these, and has one value of it
 -- Source: the project's own (docs/FORMATS.md, "Jobs" and "Refusals").
 use Rattle.std.specs.Prelude.{◌≡◌, ◌≤◌, ◌<◌, ◌⊎◌, ℕ, ◌+◌, ◌==◌, ◌||◌, ◌&&◌, nat_le, suc, Bool, true, false}
-use Rattle.std.specs.Prelude.{if◌then◌else◌, List, [], ◌∷◌, ◌++◌, Option, Some, None, Ok, Err, IsUtf8, codes, bytes_eq}
-use Rattle.std.specs.Prelude.{length, map}
+use Rattle.std.specs.Prelude.{if◌then◌else◌, List, [], ◌∷◌, ◌++◌, Option, Some, None, Ok, Err, IsUtf8, codes}
+use Rattle.std.specs.Prelude.{bytes_eq, length, map}
 use Rattle.std.specs.List.{list_all}
 use Rattle.std.specs.Str.{IsValidUpTo}
 use Rattle.rif_terms.specs.declared.limits.TheConstants.{MOST_INPUT_BYTES, MOST_CLIENTS, MOST_ITEMS, MOST_BUDGETS}
@@ -212,7 +212,8 @@ IsFaulty prefixes before line number (TooManyClients at) =
 IsFaulty prefixes before line number _ = ⊥
 
 -- Lines, of which the first has this number, are no script: a line is faulty, and those before it are a script.
-pub record IsScriptRefusal (prefixes : Prefixes) (lines : List (List ℕ)) (first : ℕ) (refusal : Refusal) : Type 0 where
+pub record IsScriptRefusal (prefixes : Prefixes) (lines : List (List ℕ)) (first : ℕ)
+    (refusal : Refusal) : Type 0 where
   pub before : List (List ℕ)
   pub line : List ℕ
   pub behind : List (List ℕ)

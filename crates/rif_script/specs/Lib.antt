@@ -1,3 +1,4 @@
+pub mod CheckedText
 pub mod Cutting
 pub mod CuttingLaws
 pub mod Faults

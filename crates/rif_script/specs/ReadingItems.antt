@@ -3,8 +3,8 @@
 --     fact_from ls        the fact that all the leaves are
 --     item_from text ls   the item of a word, with the leaves behind it
 --     sent_from           a client's name and its item, which all tokens of a line are
-use Rattle.std.specs.Prelude.{ℕ, ℤ, pos, negsuc, zero, suc, ◌&&◌, Bool, true, false, if◌then◌else◌, List, [], ◌∷◌, ◌++◌}
-use Rattle.std.specs.Prelude.{Option, Some, None, codes, bytes_eq, drop, length}
+use Rattle.std.specs.Prelude.{ℕ, ℤ, pos, negsuc, zero, suc, ◌&&◌, Bool, true, false, if◌then◌else◌, List, [], ◌∷◌}
+use Rattle.std.specs.Prelude.{◌++◌, Option, Some, None, codes, bytes_eq, drop, length}
 use Rattle.rif_terms.specs.declared.constant.Const.{Const}
 use Rattle.rif_terms.specs.declared.constant.Const.TheVariants.{Int as IntConst, Bool as BoolConst, Str as StrConst}
 use Rattle.rif_terms.specs.declared.constant.Const.TheVariants.{Iri as IriConst, Local as LocalConst, Fresh}

@@ -7,8 +7,9 @@ use Rattle.rif_terms.specs.declared.refusal.Counted.TheVariants.{Rules, Variable
 use Rattle.rif_terms.specs.declared.refusal.Refusal.{Refusal}
 use Rattle.rif_terms.specs.declared.refusal.Refusal.TheVariants.{InputTooLong, NotUtf8, BadToken, Expected, TooDeep}
 use Rattle.rif_terms.specs.declared.refusal.Refusal.TheVariants.{IntRange, UnknownPrefix, LeftOut, UnknownBuiltin}
-use Rattle.rif_terms.specs.declared.refusal.Refusal.TheVariants.{Arity, BadStrategy, PriorityRange, TooMany, Undeclared}
-use Rattle.rif_terms.specs.declared.refusal.Refusal.TheVariants.{DeclaredTwice, Unsafe, BadLine, BudgetTooLarge}
+use Rattle.rif_terms.specs.declared.refusal.Refusal.TheVariants.{Arity, BadStrategy, PriorityRange, TooMany}
+use Rattle.rif_terms.specs.declared.refusal.Refusal.TheVariants.{Undeclared, DeclaredTwice, Unsafe, BadLine}
+use Rattle.rif_terms.specs.declared.refusal.Refusal.TheVariants.{BudgetTooLarge}
 use Rattle.rif_terms.specs.declared.refusal.Refusal.TheVariants.{TooManyItems, TooManyClients, TooManyBranches}
 
 -- what there are too many of

@@ -3,8 +3,8 @@
 --     turns_text job k turns           turns with the numbers from one on
 --     run_text job turns left facts    the text of a run
 -- Source: the project's own (docs/FORMATS.md, "The trace").
-use Rattle.std.specs.Prelude.{suc, ℕ, ◌-◌, Bool, true, false, List, [], ◌∷◌, ◌++◌, Some, None, codes, count_by, decimal}
-use Rattle.std.specs.Prelude.{length, slice_get}
+use Rattle.std.specs.Prelude.{suc, ℕ, ◌-◌, Bool, true, false, List, [], ◌∷◌, ◌++◌, Some, None, codes, count_by}
+use Rattle.std.specs.Prelude.{decimal, length, slice_get}
 use Rattle.std.specs.List.{flat_map}
 use Rattle.std.specs.declared.option.Option.{Option}
 use Rattle.rif_terms.specs.declared.constant.Const.{Const}

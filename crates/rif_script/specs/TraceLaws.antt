@@ -50,6 +50,7 @@ abbrev pub SameTextSameRun : Type 0
 SameTextSameRun =
     (job : Job) (turn_of : List (List Entry) → List Entry → Turn) (bs cs : List (List Entry))
     (left right : List Entry) (m n : ℕ) →
-    HasClientNames job → AreTurns turn_of → FollowsScripts job (joined bs left) → FollowsScripts job (joined cs right) →
+    HasClientNames job → AreTurns turn_of → FollowsScripts job (joined bs left) →
+    FollowsScripts job (joined cs right) →
     run_text job (turns_behind turn_of [] bs) left m ≡ run_text job (turns_behind turn_of [] cs) right n →
     (bs ≡ cs) × (left ≡ right)

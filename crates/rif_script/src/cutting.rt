@@ -13,6 +13,7 @@ use std::mem;
 
 /// The batches of a job's items for one thread, and the entries that are left. A batch ends after a control
 /// item, after 1,024 items or at the end of the script; what stands behind the first Dispose is left.
+/// The condition is that each item's client is the number of one of the job's names, as in each job that was read.
 /// The cost is a copy of each item.
 ///
 /// Source: our own (docs/PROFILE.md, "Replay").

@@ -1,4 +1,5 @@
 //! Laws of the definitions: functions without parameters, whose bodies are empty.
+ghost use Rattle.rif_script.specs.CheckedText.{CheckedTextIsAJob};
 ghost use Rattle.rif_script.specs.CuttingLaws.{CutEndsBatches, CutIsLawful, CutKeepsAll, EntriesFollowScripts};
 ghost use Rattle.rif_script.specs.Jobs.{OneOutcome};
 ghost use Rattle.rif_script.specs.TraceLaws.{SameTextSameRun};
@@ -33,4 +34,11 @@ pub fn same_text_same_run()
 /// Law: an input is one job at most, has one refusal at most, and not both.
 pub fn one_outcome()
     ensures { OneOutcome }
+{}
+
+/// Law: the canonical text of the document of an input, as an input of its own, is a job of that document
+/// with no clients and no items, and so has itself as its canonical text; or it is refused, where it is
+/// longer than an input may be, or at a bracket in it that stands deeper than one may; and it is nothing else.
+pub fn checked_text_is_a_job()
+    ensures { CheckedTextIsAJob }
 {}

@@ -43,6 +43,7 @@ impl Model for MemSink {
 impl MemSink {
     /// A sink with room for `room` bytes, for which it takes the memory now. A call takes at most
     /// `piece` bytes, and fails where its number, counted from 1, is in `fail`, or where no room is left.
+    /// The condition is that a piece has at least one byte.
     pub fn new(
         alloc: Global,
         room: usize,

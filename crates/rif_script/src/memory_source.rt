@@ -38,7 +38,7 @@ impl Model for MemSource {
 
 impl MemSource {
     /// A source of these bytes. A call gives at most `piece` of them, and fails where its number,
-    /// counted from 1, is in `fail`.
+    /// counted from 1, is in `fail`. The condition is that a piece has at least one byte.
     pub fn new(bytes: Vec<u8>, piece: usize, fail: Vec<u64>) -> MemSource
         requires { 0 < piece }
         ensures { result ≡ record {

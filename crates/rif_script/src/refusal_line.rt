@@ -7,6 +7,7 @@ use std::alloc::Global;
 
 /// Puts the line of a refused input at the end of `out`, with its line feed: `refused`, the refusal's
 /// number, and the place or the rule that it names. After want of memory `out` is as before.
+/// The cost is the line's length; the line is made apart before it is put there.
 ///
 /// Source: our own (docs/FORMATS.md, "Refusals").
 pub fn write_refusal(alloc: Global, out: &mut Vec<u8>, refusal: &Refusal) -> Result<(), OutOfMemory>

@@ -19,7 +19,8 @@ pub trait Sink {
     /// How many calls have failed.
     ghost faults: { Self → ℕ };
 
-    /// Writes the piece's first bytes, and answers how many.
+    /// Writes the piece's first bytes, and answers how many. It is at least one, unless the piece is empty.
+    /// The condition is that fewer than 2^64 - 1 calls have failed.
     fn give(&mut self, piece: &[u8]) -> Result<usize, Failed>
         requires { faults self.old < 2 ^ 64 - 1 }
         ensures bound { WritesAtMost result piece.now }

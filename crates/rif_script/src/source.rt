@@ -21,6 +21,7 @@ pub trait Source {
 
     /// Puts the next bytes at the buffer's front, and answers how many. It answers 0 for a buffer that
     /// isn't empty at the end alone. What the rest of the buffer has then is left open.
+    /// The condition is that fewer than 2^64 - 1 calls have failed.
     fn take(&mut self, buf: &mut [u8]) -> Result<usize, Failed>
         requires { faults self.old < 2 ^ 64 - 1 }
         ensures bound { ReadsAtMost result buf.new }

@@ -31,7 +31,8 @@ returns-in_err-constant c =
     let low = c.loop-left-test.true in
     let front = first_seen s.rest c.in-Some.behind c.in-Some.leaf c.in_ok-leaf.field-0 c.in-Some.is
     c.in_ok-leaf.ensures in
-    let open_ = open_seen s.rest c.in-Some.behind c.in-Some.leaf front (sym c.is_close.ensures ∙ c.if-is_close.false) in
+    let open_ = open_seen s.rest c.in-Some.behind c.in-Some.leaf front
+    (sym c.is_close.ensures ∙ c.if-is_close.false) in
     let p = err_from_is_err_and c.from_residual-in_err-constant.result c.from_residual-in_err-constant.ensures.1 in
     rw (p.1, p.2) (gives_less with_seen with_seen c.in_err-constant.field-0.0 _ _ (λ none.
     consts_refused s.found s.left (s.left - 1) (seen s.rest) _ s.invariant (omega (arith, low)) open_
@@ -43,7 +44,8 @@ loop-left-preserved c =
     let low = c.loop-left-test.true in
     let front = first_seen s.rest c.in-Some.behind c.in-Some.leaf c.in_ok-leaf.field-0 c.in-Some.is
     c.in_ok-leaf.ensures in
-    let open_ = open_seen s.rest c.in-Some.behind c.in-Some.leaf front (sym c.is_close.ensures ∙ c.if-is_close.false) in
+    let open_ = open_seen s.rest c.in-Some.behind c.in-Some.leaf front
+    (sym c.is_close.ensures ∙ c.if-is_close.false) in
     rw c.in_ok-push.ensures.ok
     (consts_more s.found s.left (s.left - 1) (seen s.rest) _ s.invariant (omega (arith, low)) open_
     c.in_ok-constant.constant (seen c.in_ok-constant.next)

@@ -8,7 +8,8 @@ returns-in_err-found-clause-refused c =
     rw (p.1, p.2) (unlexed c.args.text.now c.in_err-found.field-0.0 c.in_err-found.ensures)
 
 pub returns-clause-read : goal.returns-clause-read
-returns-clause-read c = text_read c.args.text.now _ c.read_parts.result c.in_ok-found.ensures c.read_parts.ensures.read
+returns-clause-read c =
+    text_read c.args.text.now _ c.read_parts.result c.in_ok-found.ensures c.read_parts.ensures.read
 
 pub returns-clause-refused : goal.returns-clause-refused
 returns-clause-refused c =

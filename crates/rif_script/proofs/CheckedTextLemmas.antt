@@ -1,0 +1,164 @@
+-- The canonical text of an input's document, as an input of its own. No line of it begins with `%`: it is tokens with
+-- gaps, a line feed is a gap, and no token begins with `%`.
+use Rattle.std.proofs.Common.{◌≡◌, ◌⊎◌, inl, inr, refl, sym, ap, subst, ℕ, ◌==◌, arith, Bool, true, false, List}
+use Rattle.std.proofs.Common.{[], ◌∷◌, ◌++◌, map, length, Ok, Err}
+use Rattle.std.specs.Prelude.{All}
+use Rattle.std.proofs.lemmas.Bool.{eqb-true}
+use Rattle.std.proofs.lemmas.List.Elements.{All-head, All-tail, All-map, All-same, All-weaker}
+use Rattle.rif_terms.specs.declared.refusal.Refusal.{Refusal}
+use Rattle.rif_terms.specs.declared.refusal.Refusal.TheVariants.{InputTooLong, TooDeep}
+use Rattle.rif_terms.specs.declared.rule.Doc.{Doc}
+use Rattle.rif_lex.specs.declared.piece.Piece.TheVariants.{Lexeme}
+use Rattle.rif_lex.specs.declared.token.Kind.{Kind}
+use Rattle.rif_lex.specs.declared.token.Token.{Token}
+use Rattle.rif_lex.specs.Lexing.{lexed}
+use Rattle.rif_lex.specs.Pieces.{piece_at}
+use Rattle.rif_lex.specs.Places.{line_feeds}
+use Rattle.rif_lex.specs.Spelling.{AreSeparate, Gap, IsToken, Spelled, Written, gap_text, joined, line_feed, space}
+use Rattle.rif_lex.specs.Spelling.{spelled_text, written}
+use Rattle.rif_lex.proofs.LexingLemmas.{inputs_are_texts}
+use Rattle.rif_lex.proofs.PlaceLemmas.{line_feeds_first}
+use Rattle.rif_lex.proofs.RefusalLemmas.{inputs_are_refused}
+use Rattle.rif_lex.proofs.SpanLemmas.{slices_are_tokens}
+use Rattle.rif_lex.proofs.SpellingLemmas.{spelled_is_lexed}
+use Rattle.prd_reader.specs.Canonical.{canonical_spelling, canonical_text}
+use Rattle.prd_reader.specs.Documents.{IsRead, IsRefused as IsDocumentRefused}
+use Rattle.prd_reader.specs.ReadBack.{IsReadBack, IsTooDeep}
+use Rattle.prd_reader.proofs.ReadBackLemmas.{canonical_is_read_back}
+use Rattle.prd_reader.proofs.SeparateLaws.{canonical_is_separate}
+use Rattle.rif_script.specs.declared.job.Job.{Job}
+use Rattle.rif_script.specs.CheckedText.{CheckedTextIsAJob, IsTooLongOrDeep, document_job}
+use Rattle.rif_script.specs.Jobs.{IsJob, IsRefused, IsScript, OneOutcome, document_text}
+use Rattle.rif_script.proofs.JobLemmas.{document_of}
+use Rattle.rif_script.proofs.PlainLineLemmas.{document_is_whole, is_plain, script_is_empty}
+
+-- the rest of a line, and then more
+plain_behind : (bs rest : List ℕ) → line_feeds bs ≡ 0 → is_plain false rest ≡ true →
+    is_plain false (bs ++ rest) ≡ true
+plain_behind [] rest none plain = plain
+plain_behind (b ∷ bs) rest none plain =
+    let first = line_feeds_first b bs none in
+    rw first.0 (plain_behind bs rest first.1 plain)
+
+-- a token, and then more
+token_plain : (begins : Bool) (k : Kind) (text rest : List ℕ) → piece_at text ≡ Lexeme k (length text) →
+    line_feeds text ≡ 0 → is_plain false rest ≡ true → is_plain begins (text ++ rest) ≡ true
+token_plain begins k [] rest is none plain = cc
+token_plain begins k (b ∷ bs) rest is none plain =
+    let first = line_feeds_first b bs none in
+    let other : (b == 37) ≡ false = elim (b == 37) as (λ v. (b == 37) ≡ v → v ≡ false) [
+      | true ↦ λ same. (let e = eqb-true b 37 same in
+          let unread = subst (λ (c : ℕ). piece_at (c ∷ bs) ≡ Lexeme k (length (c ∷ bs))) e is in cc)
+      | false ↦ λ _. refl
+    ] refl in
+    elim begins as (λ v. is_plain v ((b ∷ bs) ++ rest) ≡ true) [
+      | true ↦ rw (other, first.0) (plain_behind bs rest first.1 plain)
+      | false ↦ rw first.0 (plain_behind bs rest first.1 plain)
+    ]
+
+gap_plain : (gap : Gap) (rest : List ℕ) → ((begins : Bool) → is_plain begins rest ≡ true) →
+    is_plain false (gap_text gap ++ rest) ≡ true
+gap_plain joined rest plain = plain false
+gap_plain space rest plain = plain false
+gap_plain line_feed rest plain = plain true
+
+tokens_plain : (ss : List Spelled) → AreSeparate ss →
+    All (λ (w : Written). line_feeds w.text ≡ 0) (map (λ s. s.token) ss) → (begins : Bool) → is_plain begins (spelled_text ss) ≡ true
+tokens_plain [] separate lines begins = refl
+tokens_plain (s ∷ ss) separate lines begins =
+    let P = λ (w : Written). line_feeds w.text ≡ 0 in
+    let more = tokens_plain ss separate.2 (All-tail P s.token (map (λ s. s.token) ss) lines) in
+    token_plain begins s.token.kind s.token.text (gap_text s.gap ++ spelled_text ss) separate.0
+    (All-head P s.token (map (λ s. s.token) ss) lines) (gap_plain s.gap (spelled_text ss) more)
+
+spelled_plain : (ss : List Spelled) → AreSeparate ss → is_plain true (spelled_text ss) ≡ true
+spelled_plain ss separate =
+    let text = spelled_text ss in
+    let P = λ (w : Written). line_feeds w.text ≡ 0 in
+    let lexes = spelled_is_lexed ss separate in
+    let slices = All-weaker (λ (t : Token). IsToken (written text t) × (line_feeds (written text t).text ≡ 0))
+    (λ (t : Token). line_feeds (written text t).text ≡ 0) (λ t is. is.1) lexes.0
+    (slices_are_tokens text lexes.0 lexes.1) in
+    tokens_plain ss separate
+    (All-same P (map (λ s. s.token) ss) (map (written text) lexes.0) (sym lexes.2)
+    (All-map P (written text) lexes.0 slices))
+    true
+
+canonical_plain : (bytes : List ℕ) (job : Job) → IsJob bytes job → is_plain true (canonical_text job.doc) ≡ true
+canonical_plain bytes job is =
+    let document = is.document in
+    spelled_plain (canonical_spelling job.doc)
+    (canonical_is_separate (document_text bytes) document.tokens job.doc is.prefixes document.lexed document.read)
+
+no_script : IsScript [] [] [] []
+no_script = record {
+  given = [];
+  lines_are = tt;
+  clients = refl;
+  sent = refl;
+  within = record { few_budgets = omega arith; few_items = omega arith; few_clients = omega arith };
+}
+
+-- a text whose tokens are a document, or are too deep
+abbrev Outcome : List ℕ → Doc → Type 0
+Outcome text doc =
+    IsJob text (document_job doc) ⊎ ((refusal : Refusal) × IsTooLongOrDeep refusal × IsRefused text refusal)
+
+read_outcome : (text : List ℕ) (doc : Doc) (tokens : List Token) → is_plain true text ≡ true →
+    lexed text ≡ Ok tokens → IsRead tokens text doc [] ⊎ IsTooDeep tokens text → Outcome text doc
+read_outcome text doc tokens plain lexes (inl read) =
+    let input = (inputs_are_texts text tokens).0 lexes in
+    inl (record {
+      text = record { short = input.short; utf8 = input.utf8 };
+      prefixes = [];
+      document = document_of text text doc [] (sym (document_is_whole text plain)) (tokens, lexes, read);
+      script = subst (λ (ls : List (List ℕ)). IsScript [] ls [] []) (sym (script_is_empty text plain)) no_script;
+    })
+read_outcome text doc tokens plain lexes (inr deep) =
+    let input = (inputs_are_texts text tokens).0 lexes in
+    let whole = sym (document_is_whole text plain) in
+    inr (
+      TooDeep deep.0 deep.1,
+      tt,
+      inr (inr (
+        record { short = input.short; utf8 = input.utf8 },
+        inr (inl (record {
+          tokens = tokens;
+          lexed = subst (λ (t : List ℕ). lexed t ≡ Ok tokens) whole lexes;
+          refused = subst (λ (t : List ℕ). IsDocumentRefused tokens t (TooDeep deep.0 deep.1)) whole deep.2;
+        })),
+      )),
+    )
+
+text_outcome : (text : List ℕ) (doc : Doc) → is_plain true text ≡ true →
+    (lexed text ≡ Err InputTooLong) ⊎ IsReadBack text doc → Outcome text doc
+text_outcome text doc plain (inl long) =
+    inr (InputTooLong, tt, inl (refl, (inputs_are_refused text InputTooLong).0 long))
+text_outcome text doc plain (inr back) = read_outcome text doc back.0 plain back.1.0 back.1.1
+
+-- by the one outcome of a text it is nothing else
+module _ (jobs : OneOutcome) (text : List ℕ) (doc : Doc) where
+  job_again : (job : Job) → IsJob text job → Outcome text doc → job ≡ document_job doc
+  job_again job is (inl same) = jobs.one_job text job (document_job doc) is same
+  job_again job is (inr other) = absurd (jobs.not_both text job other.0 is other.2)
+
+  refused_again : (refusal : Refusal) → IsRefused text refusal → Outcome text doc → IsTooLongOrDeep refusal
+  refused_again refusal is (inl same) = absurd (jobs.not_both text (document_job doc) refusal same is)
+  refused_again refusal is (inr other) =
+      subst IsTooLongOrDeep (jobs.one_refusal text other.0 refusal other.2 is) other.1
+
+pub checked_text_is_a_job : OneOutcome → CheckedTextIsAJob
+checked_text_is_a_job jobs bytes job is =
+    let text = canonical_text job.doc in
+    let document = is.document in
+    let back = canonical_is_read_back (document_text bytes) document.tokens job.doc is.prefixes document.lexed
+    document.read in
+    let outcome = text_outcome text job.doc (canonical_plain bytes job is) back in
+    let same : (again : Job) → IsJob text again → again ≡ document_job job.doc =
+    λ again read. job_again jobs text job.doc again read outcome in
+    record {
+      outcome = outcome;
+      same_job = same;
+      same_text = λ again read. ap (λ (j : Job). canonical_text j.doc) (same again read);
+      refused = λ refusal other. refused_again jobs text job.doc refusal other outcome;
+    }
