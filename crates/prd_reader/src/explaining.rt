@@ -1,4 +1,4 @@
-//! Refusals in words: what was found at the place, and what could stand there.
+//! Refusals in words: what was found at the place, and what could stand there or which limit is passed.
 ghost use Rattle.std.specs.Prelude.{◌≡◌, Ok};
 ghost use Rattle.rif_lex.specs.Lexing.{lexed};
 
@@ -6,6 +6,7 @@ mod brackets;
 mod calls;
 mod expected;
 mod keywords;
+mod limits;
 mod names;
 mod spot;
 mod unreadable;
@@ -16,6 +17,7 @@ use crate::explaining::brackets::push_open_bracket;
 use crate::explaining::calls::{call_at, push_call};
 use crate::explaining::expected::{push_expected, push_integers, push_types};
 use crate::explaining::keywords::push_keyword;
+use crate::explaining::limits::push_limit;
 use crate::explaining::names::{push_external, push_other_builtin};
 use crate::explaining::spot::Spot;
 use crate::explaining::unreadable::push_unreadable;
@@ -25,9 +27,9 @@ use rif_lex::Token;
 use rif_terms::{OutOfMemory, Refusal};
 use std::alloc::Global;
 
-/// A refusal of a document in words, for people: its own text, the token at its place, and where something else
-/// is expected, what that could be, and what may be meant. The condition is that the tokens are those of the
-/// bytes. A refusal that names no token has its own text alone.
+/// A refusal of a document in words, for people: its own text, the token at its place, and what could stand
+/// there or which limit is passed; where something else is expected, what may be meant, too. The condition is
+/// that the tokens are those of the bytes. A refusal that names no token has its own text alone.
 ///
 /// The cost is that of reading the document up to there. No clause says what the text is.
 ///
@@ -135,7 +137,7 @@ fn is_left_out_as_a_whole(refusal: &Refusal, leaf: Option<&Leaf>) -> bool {
     }
 }
 
-// What could stand there, and what may be meant.
+// What could stand there, and what may be meant; or how many there may be.
 fn push_more(
     alloc: Global,
     out: &mut Vec<u8>,
@@ -150,6 +152,7 @@ fn push_more(
         Refusal::IntRange { .. } => push_integers(out),
         Refusal::LeftOut { .. } => push_types(out, spot.leaf()),
         Refusal::UnknownBuiltin { .. } => push_other_builtin(alloc, out, spot),
+        Refusal::TooMany { what, .. } => push_limit(out, *what),
         _ => Ok(()),
     }
 }

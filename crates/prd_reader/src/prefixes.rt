@@ -30,7 +30,7 @@ impl Model for Prefixes {
 }
 
 impl Prefixes {
-    ghost use Rattle.std.specs.Prelude.{◌≡◌, ◌↔◌, [], length, IfSome, IsTrue, IsUtf8, List, OnOk, ℕ};
+    ghost use Rattle.std.specs.Prelude.{◌≡◌, ◌↔◌, [], length, IfSome, IsTrue, IsUtf8, List, OnErr, OnOk, ℕ};
     ghost use Rattle.std.specs.Map.Iter.{ShowsInOrder, deref_pair};
     ghost use Rattle.std.specs.Option.{option_copied};
     ghost use Rattle.prd_reader.specs.Prefixes.{meaning_in, with_prefix};
@@ -58,7 +58,8 @@ impl Prefixes {
         self.declared.is_empty()
     }
 
-    /// The names with their IRIs, in the order in which they were first declared.
+    /// The names with their IRIs, in the order in which they were first declared. Each step takes constant time,
+    /// and none takes memory.
     pub fn iter(&self) -> Iter<'_, Text, Text>
         ensures rest { result ≡ self.now }
         ensures runs { ShowsInOrder (deref_pair {K = List ℕ} {X = List ℕ}) }
@@ -88,7 +89,8 @@ impl Prefixes {
     ///
     /// Source: our own (docs/FORMATS.md, "Names").
     pub fn declare(&mut self, name: Text, iri: Text) -> Result<(), OutOfMemory>
-        ensures { OnOk result (self.new ≡ with_prefix self.old name iri) }
+        ensures declared { OnOk result (self.new ≡ with_prefix self.old name iri) }
+        ensures unchanged { OnErr result (self.new ≡ self.old) }
     {
         self.declared.insert(name, iri)?;
         Ok(())

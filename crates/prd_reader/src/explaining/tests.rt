@@ -1,7 +1,7 @@
 //! Refusals in words, table by table.
 use super::{explain, explain_line};
 use rif_lex::tokens;
-use rif_terms::Refusal;
+use rif_terms::{Counted, Refusal};
 use std::alloc::Global;
 use std::process::Abort;
 use std::test::Fail;
@@ -193,6 +193,30 @@ fn the_integers_are_named(rt: HostRuntime) -> Result<(), Fail> {
     let document = "Document(Group(Do(Assert(_p(9223372036854775808)))))";
     let words = "found `9223372036854775808`, expected -9223372036854775808 to 9223372036854775807";
     compare(&rt, rt.alloc(), document, &refusal, words)
+}
+
+static LIMITS: &[(Counted, &str)] = &[
+    (Counted::Rules, "a document has at most 1024"),
+    (Counted::Variables, "a rule has at most 32"),
+    (Counted::Patterns, "a rule's conditions have at most 32"),
+    (Counted::Actions, "a rule has at most 32"),
+];
+
+#[test]
+fn the_limit_is_named(rt: HostRuntime) -> Result<(), Fail> {
+    let alloc = rt.alloc();
+    for (what, words) in LIMITS {
+        let what = *what;
+        let refusal = Refusal::TooMany {
+            what,
+            line: 1,
+            col: 16,
+        };
+        let words = format!(in alloc; "found `Do`; {words}")?;
+        let document = "Document(Group(Do(Assert(_p()))))";
+        compare(&rt, alloc, document, &refusal, words.as_str())?;
+    }
+    Ok(())
 }
 
 static UNREADABLE: &[(&str, &str)] = &[

@@ -3,8 +3,8 @@ use Rattle.prd_reader.specs.Prefixes.{Prefixes, with_prefix}
 use Rattle.prd_reader.proofs.PrefixMapLemmas.{declared_is}
 use Rattle.prd_reader.proofs.prefixes.Prefixes.declare.Goals as goal
 
-pub returns : goal.returns
-returns c =
+pub returns-clause-declared : goal.returns-clause-declared
+returns-clause-declared c =
     c.in_ok-insert.ensures.entries
     ∙ (declared_is _ c.args.name c.args.iri ∙ ap (λ
     (p : Prefixes). with_prefix p c.args.name c.args.iri) c.self.view_is)

@@ -1,0 +1,25 @@
+//! Limits that are passed, in words.
+use itoa::Buffer;
+use rif_terms::limits::{MOST_ACTIONS, MOST_PATTERNS, MOST_RULES, MOST_VARIABLES};
+use rif_terms::{Counted, OutOfMemory};
+
+/// How many there may be of what a document or a rule has too many of.
+pub fn push_limit(out: &mut Vec<u8>, what: Counted) -> Result<(), OutOfMemory> {
+    let (owner, most) = limit_of(what);
+    let mut number = Buffer::new();
+    out.extend_from_slice(b"; ")?;
+    out.extend_from_slice(owner.as_bytes())?;
+    out.extend_from_slice(b" at most ")?;
+    out.extend_from_slice(number.format(most).as_bytes())?;
+    Ok(())
+}
+
+// What has them, and how many at most.
+fn limit_of(what: Counted) -> (&'static str, u64) {
+    match what {
+        Counted::Rules => ("a document has", MOST_RULES),
+        Counted::Variables => ("a rule has", MOST_VARIABLES),
+        Counted::Patterns => ("a rule's conditions have", MOST_PATTERNS),
+        Counted::Actions => ("a rule has", MOST_ACTIONS),
+    }
+}
