@@ -10,7 +10,7 @@ use crate::behind::Behind;
 use crate::leaf::{Keyword, Leaf};
 use crate::prefixes::Prefixes;
 use crate::text_pool::TextPool;
-use crate::token_leaf::leaf_in;
+use crate::token_leaf::leaf_at;
 use rif_lex::Token;
 use rif_terms::{OutOfMemory, Text};
 use std::alloc::Global;
@@ -35,7 +35,7 @@ pub fn leaves(
     let mut pool = TextPool::new(alloc)?;
     for at in 0..tokens.len() {
         let behind = behind_of(found.as_slice());
-        let leaf = leaf_in(
+        let leaf = leaf_at(
             &mut pool,
             &prefixes,
             behind,
