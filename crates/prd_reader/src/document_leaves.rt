@@ -17,8 +17,8 @@ use std::alloc::Global;
 
 /// The leaves of a document's tokens, and the prefixes that are declared in it.
 ///
-/// One pass over the tokens. It takes memory for the leaves at once, for the texts that they have, and for the
-/// prefixes.
+/// One pass over the tokens. It takes memory for the leaves at once, for the texts that they have, of which equal
+/// ones share their bytes where a pool keeps them, for that pool, and for the prefixes.
 ///
 /// Source: our own (docs/FORMATS.md, "Grammar" and "Names").
 pub fn leaves(

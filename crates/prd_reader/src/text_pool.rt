@@ -11,12 +11,12 @@ const PLACES: usize = 1024;
 // The longest text that is kept, in bytes.
 const LONGEST_KEPT: usize = 128;
 
-/// What makes the texts of leaves. Names come again, in a document and in the lines of a script; so it keeps for
-/// each place that bytes lead to the newest text of 128 bytes or less, and an equal text shares its bytes. What it
-/// keeps changes no answer, so no clause speaks of it.
+/// What makes the texts of leaves. Names come again, in a document and in the lines of a script; so it keeps texts
+/// that it made, and an equal one shares their bytes. What it keeps changes no answer, so no clause speaks of it.
 ///
-/// It takes memory for its 1,024 places at once, and for a buffer, in which a text of two parts or of a string with
-/// escapes is put together: that grows to the longest one. The texts that it keeps live as long as it does.
+/// It has 1,024 places of 16 bytes from the start, and in each the newest text of at most 128 bytes that leads to
+/// it, which lives as long as the pool. Beside them it has a buffer, in which the IRI of a CURIE or a string with
+/// escapes is put together: it takes memory as the longest one so far needs it.
 #[derive(Drop)]
 pub struct TextPool {
     alloc: Global,
@@ -28,7 +28,7 @@ impl TextPool {
     ghost use Rattle.std.specs.Prelude.{◌≡◌, ◌++◌, IfOk, IsUtf8};
     ghost use Rattle.prd_reader.specs.Literals.{unescaped};
 
-    /// A pool that keeps no text yet. It takes memory for its places.
+    /// A pool that keeps no text yet. It takes memory for its places, and none for its buffer.
     pub fn new(alloc: Global) -> Result<TextPool, OutOfMemory> {
         let mut kept = Vec::with_capacity(alloc, PLACES)?;
         for _ in 0..PLACES {

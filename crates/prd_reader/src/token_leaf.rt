@@ -22,9 +22,9 @@ use rif_terms::{OutOfMemory, Text};
 /// tokens stand behind it.
 ///
 /// Linear in the token's length, and for a string in that of the type two tokens on; for a CURIE in the length of
-/// the IRI that it stands for, too. Memory is taken for the one text that the leaf has, and not where the pool keeps
-/// an equal one; and where the pool's buffer grows. A typed integer or boolean has no text, but that of its string
-/// is made and given back. For a type or a built-in's name no text is made.
+/// the IRI that it stands for, too. Memory is taken for the text that the leaf has, so for each CURIE whose IRI isn't
+/// in the pool for one text, and where the pool's buffer grows. No text is made of a type or of a built-in's name;
+/// that of a typed integer or boolean is made and given back.
 ///
 /// Source: our own (docs/FORMATS.md, "Grammar" and "Names").
 pub fn leaf_at(

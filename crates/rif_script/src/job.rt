@@ -26,8 +26,8 @@ pub struct Job {
 /// The job that the bytes are, or the first refusal that stands: 1 and 2 of the whole input, 3 to 13 of its
 /// document, and then 17 to 20 of its script, each exactly at its place.
 ///
-/// The cost is linear in the bytes; beside the job, memory is taken for the tokens of the document, and for
-/// those of one line of the script.
+/// The cost is linear in the bytes; beside the job, memory is taken for the tokens and the leaves of the document,
+/// for the tokens of one line of the script, and for a pool of texts at a time.
 ///
 /// Source: our own (docs/FORMATS.md, "Jobs" and "Refusals").
 pub fn read_job(alloc: Global, bytes: &[u8]) -> Result<Job, Fault>

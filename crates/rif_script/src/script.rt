@@ -26,8 +26,8 @@ pub struct Script {
 }
 
 /// The script of a text whose first line has this number, or the refusal of its first faulty line. The
-/// cost is the text's length; for a line memory is taken for its item and a new client's name, and the room
-/// for its tokens is used again.
+/// cost is the text's length; for a line memory is taken for its item and a new client's name. The room for its
+/// tokens is used again, and one pool makes the texts of all lines, so that names which come again share their bytes.
 ///
 /// Source: our own (docs/FORMATS.md, "Jobs").
 pub fn read_script(

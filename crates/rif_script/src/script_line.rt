@@ -27,7 +27,8 @@ pub enum Line<'a> {
 }
 
 /// What a line is, with or without its line feed, or nothing where it has none of the forms. Its tokens
-/// are put into the list, whose room is used again. The cost is the line's length.
+/// are put into the list, whose room is used again, and the pool makes the texts of its item. The cost is the
+/// line's length.
 ///
 /// Source: our own (docs/FORMATS.md, "Jobs").
 pub fn read_line<'a>(
