@@ -10,15 +10,15 @@ use crate::behind::Behind;
 use crate::leaf::{Keyword, Leaf};
 use crate::prefixes::Prefixes;
 use crate::text_pool::TextPool;
-use crate::token_leaf::leaf_in;
+use crate::token_leaf::leaf_at;
 use rif_lex::Token;
 use rif_terms::{OutOfMemory, Text};
 use std::alloc::Global;
 
 /// The leaves of a document's tokens, and the prefixes that are declared in it.
 ///
-/// One pass over the tokens. It takes memory for the leaves at once, for the texts that they have, and for the
-/// prefixes.
+/// One pass over the tokens. It takes memory for the leaves at once, for the texts that they have, of which equal
+/// ones share their bytes where a pool keeps them, for that pool, and for the prefixes.
 ///
 /// Source: our own (docs/FORMATS.md, "Grammar" and "Names").
 pub fn leaves(
@@ -35,7 +35,7 @@ pub fn leaves(
     let mut pool = TextPool::new(alloc)?;
     for at in 0..tokens.len() {
         let behind = behind_of(found.as_slice());
-        let leaf = leaf_in(
+        let leaf = leaf_at(
             &mut pool,
             &prefixes,
             behind,

@@ -10,7 +10,8 @@ use rif_terms::OutOfMemory;
 
 /// The leaf of a word.
 ///
-/// Linear in its length; the bytes of a word that isn't the grammar's are copied once.
+/// Linear in its length; the bytes of a word that isn't the grammar's are copied once, where the pool doesn't keep
+/// an equal one.
 ///
 /// Source: our own (docs/FORMATS.md, "Grammar").
 pub(crate) fn word_leaf(pool: &mut TextPool, text: &[u8]) -> Result<Leaf, OutOfMemory>

@@ -53,6 +53,7 @@ pub use explaining::{explain, explain_line};
 pub use laws::{canonical_is_read_back, canonical_is_separate, one_outcome};
 pub use leaf::{Builtin, BuiltinName, Keyword, Leaf, Literal};
 pub use prefixes::Prefixes;
+pub use text_pool::TextPool;
 pub use token_leaf::leaf_at;
 pub use token_text::text_of;
 pub use writing::write_doc;

@@ -1,5 +1,5 @@
 //! Integers, strings and typed literals by their texts.
-ghost use Rattle.std.specs.Prelude.{◌≡◌, ◌==◌, IfOk, IsUtf8, true};
+ghost use Rattle.std.specs.Prelude.{◌≡◌, ◌==◌, IsUtf8, OnOk, true};
 ghost use Rattle.std.specs.List.{list_all, list_any};
 ghost use Rattle.std.specs.Str.Parse.{without_leading_sign};
 ghost use Rattle.rif_lex.specs.Characters.{begins, class_at, is_between, is_inside_iri, is_name};
@@ -8,9 +8,7 @@ ghost use Rattle.prd_reader.specs.Literals.{is_iri_text, is_name_text, is_type, 
 ghost use Rattle.prd_reader.specs.LeafWords.{integer_literal};
 
 use crate::leaf::Literal;
-use crate::text_pool::TextPool;
 use rif_terms::{Integer, OutOfMemory, Text};
-use std::alloc::Global;
 
 /// The integer of digits with a sign, and none where it is out of range.
 ///
@@ -38,33 +36,24 @@ fn parsed(digits: &str) -> Option<Integer>
     }
 }
 
-/// The text of a string, with its escapes undone.
+/// Whether a string's text has an escape.
 ///
-/// Linear in the text's length. The bytes are copied once, and where there are escapes a second time, which is
-/// given back.
-///
-/// Source: our own (docs/FORMATS.md, "Tokens").
-pub(crate) fn unescaped(pool: &mut TextPool, text: &[u8]) -> Result<Text, OutOfMemory>
-    requires { IsUtf8 text.now }
-    ensures { IfOk result (λ made. made ≡ unescaped text.now) }
-{
-    if !has_escape(text) {
-        return pool.text(text);
-    }
-    let bytes = unescaped_bytes(pool.alloc(), text)?;
-    pool.text(bytes.as_slice())
-}
-
-fn has_escape(text: &[u8]) -> bool
+/// Linear in the text's length; takes no memory.
+pub(crate) fn has_escape(text: &[u8]) -> bool
     ensures { result ≡ list_any (λ b. b == 92) text.now }
 {
     text.iter().any(|byte| *byte == b'\\')
 }
 
-fn unescaped_bytes(alloc: Global, text: &[u8]) -> Result<Vec<u8>, OutOfMemory>
-    ensures { IfOk result (λ made. made.items ≡ unescaped text.now) }
+/// Puts the text of a string, with its escapes undone, into the list, in place of what it has.
+///
+/// Linear in the text's length; takes memory where the list grows.
+///
+/// Source: our own (docs/FORMATS.md, "Tokens").
+pub(crate) fn unescape(made: &mut Vec<u8>, text: &[u8]) -> Result<(), OutOfMemory>
+    ensures { OnOk result (made.new.items ≡ unescaped text.now) }
 {
-    let mut made = Vec::with_capacity(alloc, text.len())?;
+    made.clear();
     let mut escape = false;
     for byte in text {
         if escape {
@@ -76,7 +65,7 @@ fn unescaped_bytes(alloc: Global, text: &[u8]) -> Result<Vec<u8>, OutOfMemory>
             made.push(*byte)?;
         }
     }
-    Ok(made)
+    Ok(())
 }
 
 // The character that an escape's last byte stands for.

@@ -1,5 +1,8 @@
-//! Documents that are read, with what they stand for, and documents that are refused, with the places.
+//! Documents that are read, with what they stand for, and documents that are refused, with the places; and leaves of
+//! single tokens.
+mod leaves;
 mod limits;
+mod prefixes;
 mod refusals;
 mod written;
 

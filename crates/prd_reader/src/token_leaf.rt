@@ -11,39 +11,23 @@ use crate::behind::Behind;
 use crate::builtin_name::builtin_named;
 use crate::keyword::word_leaf;
 use crate::leaf::{BuiltinName, Leaf, Literal};
-use crate::literal::{integer_of, is_type, literal_of, unescaped};
+use crate::literal::{integer_of, is_type, literal_of};
 use crate::prefixes::Prefixes;
 use crate::text_pool::TextPool;
 use crate::token_text::{before_colon, behind_colon, behind_sign, inner, text_of};
 use rif_lex::{Kind, Token};
 use rif_terms::{OutOfMemory, Text};
-use std::alloc::Global;
 
 /// The leaf of a token of the bytes, where these prefixes are declared, this stands straight before it, and these
 /// tokens stand behind it.
 ///
 /// Linear in the token's length, and for a string in that of the type two tokens on; for a CURIE in the length of
-/// the IRI that it stands for, too. The text that the leaf has is copied.
+/// the IRI that it stands for, too. Memory is taken for the text that the leaf has, so for each CURIE whose IRI isn't
+/// in the pool for one text, and where the pool's buffer grows. No text is made of a type or of a built-in's name;
+/// that of a typed integer or boolean is made and given back.
 ///
 /// Source: our own (docs/FORMATS.md, "Grammar" and "Names").
 pub fn leaf_at(
-    alloc: Global,
-    prefixes: &Prefixes,
-    behind: Behind,
-    token: Token,
-    rest: &[Token],
-    bytes: &[u8],
-) -> Result<Leaf, OutOfMemory>
-    requires { IsTokenOf bytes.now token }
-    ensures { IfOk result (λ leaf. leaf
-        ≡ leaf_of prefixes.now (front_of behind) (written bytes.now token) (map (written bytes.now) rest.now)) }
-{
-    let mut pool = TextPool::without_places(alloc);
-    leaf_in(&mut pool, prefixes, behind, token, rest, bytes)
-}
-
-/// The same, where the text that the leaf has may share the bytes of one in the pool.
-pub(crate) fn leaf_in(
     pool: &mut TextPool,
     prefixes: &Prefixes,
     behind: Behind,
@@ -63,8 +47,8 @@ pub(crate) fn leaf_in(
         Kind::Var => Ok(Leaf::Var(pool.text(behind_sign(text))?)),
         Kind::Int => Ok(Leaf::Int(integer_of(text))),
         Kind::Str => {
-            let content = unescaped(pool, inner(text))?;
-            string_leaf(pool.alloc(), prefixes, content, rest, bytes)
+            let content = pool.unescaped(inner(text))?;
+            string_leaf(pool, prefixes, content, rest, bytes)
         }
         Kind::Iri => iri_leaf(pool, behind, inner(text)),
         Kind::Open => Ok(Leaf::Open),
@@ -114,20 +98,27 @@ fn curie_leaf(
     ensures { IfOk result (λ leaf. leaf
         ≡ named_leaf (front_of behind) (curie_iri prefixes.now text.now) (CurieLeaf (curie_iri prefixes.now text.now))) }
 {
-    match curie_iri(pool.alloc(), prefixes, text)? {
-        Some(iri) => known_curie(pool, behind, iri.as_slice()),
+    match curie_parts(prefixes, text) {
+        Some((meaning, name)) => known_curie(pool, behind, meaning, name),
         None => Ok(unknown_curie(behind)),
     }
 }
 
-fn known_curie(pool: &mut TextPool, behind: Behind, iri: &[u8]) -> Result<Leaf, OutOfMemory>
-    requires { IsUtf8 iri.now }
-    ensures { IfOk result (λ leaf. leaf ≡ named_leaf (front_of behind) (Some iri.now) (CurieLeaf (Some iri.now))) }
+// A CURIE whose IRI has these two parts.
+fn known_curie(
+    pool: &mut TextPool,
+    behind: Behind,
+    meaning: &[u8],
+    name: &[u8],
+) -> Result<Leaf, OutOfMemory>
+    requires { IsUtf8 (meaning.now ++ name.now) }
+    ensures { IfOk result (λ leaf. leaf ≡ named_leaf (front_of behind) (Some (meaning.now ++ name.now))
+        (CurieLeaf (Some (meaning.now ++ name.now)))) }
 {
     match behind {
-        Behind::Carets => Ok(Leaf::TypeName(is_type(iri))),
-        Behind::External => Ok(Leaf::Builtin(builtin_named(iri))),
-        _ => Ok(Leaf::Curie(Some(pool.text(iri)?))),
+        Behind::Carets => Ok(Leaf::TypeName(is_type(pool.joined_bytes(meaning, name)?))),
+        Behind::External => Ok(Leaf::Builtin(builtin_named(pool.joined_bytes(meaning, name)?))),
+        _ => Ok(Leaf::Curie(Some(pool.joined(meaning, name)?))),
     }
 }
 
@@ -142,34 +133,22 @@ fn unknown_curie(behind: Behind) -> Leaf
     }
 }
 
-// The IRI that a CURIE stands for, if its prefix is declared.
-fn curie_iri(
-    alloc: Global,
-    prefixes: &Prefixes,
-    text: &[u8],
-) -> Result<Option<Vec<u8>>, OutOfMemory>
-    ensures is { IfOk result (λ found. MatchOption found (curie_iri prefixes.now text.now ≡ None)
-        (λ iri. curie_iri prefixes.now text.now ≡ Some iri.items)) }
-    ensures utf8 { IfOk result (λ found. IfSome found (λ iri. IsUtf8 text.now → IsUtf8 iri.items)) }
+// The two parts of the IRI that a CURIE stands for, if its prefix is declared: that of the prefix, and what stands
+// behind the colon.
+fn curie_parts<'a>(prefixes: &'a Prefixes, text: &'a [u8]) -> Option<(&'a [u8], &'a [u8])>
+    ensures is { MatchOption result (curie_iri prefixes.now text.now ≡ None)
+        (λ parts. curie_iri prefixes.now text.now ≡ Some (parts.0.now ++ parts.1.now)) }
+    ensures utf8 { IfSome result (λ parts. IsUtf8 text.now → IsUtf8 (parts.0.now ++ parts.1.now)) }
 {
     match prefixes.meaning(before_colon(text)) {
-        Some(meaning) => Ok(Some(joined(alloc, meaning, behind_colon(text))?)),
-        None => Ok(None),
+        Some(meaning) => Some((meaning, behind_colon(text))),
+        None => None,
     }
-}
-
-fn joined(alloc: Global, first: &[u8], second: &[u8]) -> Result<Vec<u8>, OutOfMemory>
-    ensures { IfOk result (λ whole. whole.items ≡ first.now ++ second.now) }
-{
-    let mut whole = Vec::with_capacity(alloc, first.len().saturating_add(second.len()))?;
-    whole.extend_from_slice(first)?;
-    whole.extend_from_slice(second)?;
-    Ok(whole)
 }
 
 // A string, which is judged by the type two tokens on.
 fn string_leaf(
-    alloc: Global,
+    pool: &mut TextPool,
     prefixes: &Prefixes,
     content: Text,
     rest: &[Token],
@@ -180,7 +159,7 @@ fn string_leaf(
     match rest.split_first() {
         None => Ok(Leaf::Str(content)),
         Some((next, more)) => match next.kind {
-            Kind::Carets => literal_by(alloc, prefixes, content, more, bytes),
+            Kind::Carets => literal_by(pool, prefixes, content, more, bytes),
             _ => Ok(Leaf::Str(content)),
         },
     }
@@ -188,7 +167,7 @@ fn string_leaf(
 
 // A string by what stands behind its `^^`.
 fn literal_by(
-    alloc: Global,
+    pool: &mut TextPool,
     prefixes: &Prefixes,
     content: Text,
     rest: &[Token],
@@ -198,13 +177,13 @@ fn literal_by(
 {
     match rest.split_first() {
         None => Ok(Leaf::Typed(Literal::OfNoType)),
-        Some((token, _)) => typed_leaf(alloc, prefixes, content, *token, bytes),
+        Some((token, _)) => typed_leaf(pool, prefixes, content, *token, bytes),
     }
 }
 
 // A string whose type this token is.
 fn typed_leaf(
-    alloc: Global,
+    pool: &mut TextPool,
     prefixes: &Prefixes,
     content: Text,
     token: Token,
@@ -215,8 +194,8 @@ fn typed_leaf(
     let text = text_of(bytes, token);
     match token.kind {
         Kind::Iri => Ok(literal_leaf(content, inner(text))),
-        Kind::Curie => match curie_iri(alloc, prefixes, text)? {
-            Some(iri) => Ok(literal_leaf(content, iri.as_slice())),
+        Kind::Curie => match curie_parts(prefixes, text) {
+            Some((meaning, name)) => Ok(literal_leaf(content, pool.joined_bytes(meaning, name)?)),
             None => Ok(Leaf::Typed(Literal::OfNoType)),
         },
         _ => Ok(Leaf::Typed(Literal::OfNoType)),

@@ -6,27 +6,26 @@ ghost use Rattle.rif_script.specs.SentLeaves.{Gives, seen, with_seen};
 
 use crate::line_fault::LineFault;
 use crate::sent_tokens::SentTokens;
-use prd_reader::{Keyword, Leaf, Literal};
+use prd_reader::{Keyword, Leaf, Literal, TextPool};
 use rif_terms::{Const, Integer, Listed, Text};
-use std::alloc::Global;
 
 /// The constant at the front, and the tokens behind it.
 #[tactic(auto, unfolding(crate::specs::ReadingItems::const_from))]
 pub fn read_const<'a>(
-    alloc: Global,
+    pool: &mut TextPool,
     at: SentTokens<'a>,
 ) -> Result<(Const, SentTokens<'a>), LineFault>
     ensures { Gives with_seen result (const_from (seen at.entry)) }
 {
-    let Some((leaf, rest)) = at.first(alloc)? else {
+    let Some((leaf, rest)) = at.first(pool)? else {
         return Err(LineFault::Bad);
     };
-    const_behind(alloc, leaf, rest)
+    const_behind(pool, leaf, rest)
 }
 
 /// The constant that begins with a leaf, behind which these tokens stand, and the tokens behind it.
 pub fn const_behind<'a>(
-    alloc: Global,
+    pool: &mut TextPool,
     leaf: Leaf,
     rest: SentTokens<'a>,
 ) -> Result<(Const, SentTokens<'a>), LineFault>
@@ -34,7 +33,7 @@ pub fn const_behind<'a>(
 {
     match leaf {
         Leaf::Typed(literal) => {
-            let rest = rest.past_type(alloc)?;
+            let rest = rest.past_type(pool)?;
             Ok((literal_const(literal)?, rest))
         }
         Leaf::Key(word) => Ok((truth_const(word)?, rest)),
@@ -49,23 +48,23 @@ pub fn const_behind<'a>(
 
 /// The constants up to a bracket, and the tokens behind it.
 pub fn read_consts<'a>(
-    alloc: Global,
+    pool: &mut TextPool,
     at: SentTokens<'a>,
 ) -> Result<(Listed<Const>, SentTokens<'a>), LineFault>
     ensures { Gives with_seen result (consts_from (length (seen at.entry)) (seen at.entry)) }
 {
-    let mut found = Listed::new(alloc);
+    let mut found = Listed::new(pool.alloc());
     let mut left = at.len();
     let mut rest = at;
     while left > 0 {
         left -= 1;
-        let Some((leaf, behind)) = rest.first(alloc)? else {
+        let Some((leaf, behind)) = rest.first(pool)? else {
             return Err(LineFault::Bad);
         };
         if is_close(&leaf) {
             return Ok((found, behind));
         }
-        let (constant, next) = const_behind(alloc, leaf, behind)?;
+        let (constant, next) = const_behind(pool, leaf, behind)?;
         found.push(constant)?;
         rest = next;
     }

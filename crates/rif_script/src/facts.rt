@@ -7,32 +7,31 @@ ghost use Rattle.rif_script.specs.SentLeaves.{Gives, seen};
 use crate::constants::{read_const, read_consts};
 use crate::line_fault::LineFault;
 use crate::sent_tokens::SentTokens;
-use prd_reader::Leaf;
+use prd_reader::{Leaf, TextPool};
 use rif_terms::{Const, Fact};
-use std::alloc::Global;
 
 /// The fact that all the tokens are.
 #[tactic(auto, unfolding(crate::specs::ReadingItems::fact_from))]
-pub fn read_fact(alloc: Global, at: SentTokens<'_>) -> Result<Fact, LineFault>
+pub fn read_fact(pool: &mut TextPool, at: SentTokens<'_>) -> Result<Fact, LineFault>
     ensures { Gives (λ fact. fact) result (fact_from (seen at.entry)) }
 {
-    let (object, rest) = read_const(alloc, at)?;
-    fact_with(alloc, object, rest)
+    let (object, rest) = read_const(pool, at)?;
+    fact_with(pool, object, rest)
 }
 
 // The fact that begins with a constant, behind which these tokens stand.
-fn fact_with(alloc: Global, object: Const, at: SentTokens<'_>) -> Result<Fact, LineFault>
+fn fact_with(pool: &mut TextPool, object: Const, at: SentTokens<'_>) -> Result<Fact, LineFault>
     ensures { Gives (λ fact. fact) result (fact_with object (seen at.entry)) }
 {
-    let Some((leaf, rest)) = at.first(alloc)? else {
+    let Some((leaf, rest)) = at.first(pool)? else {
         return Err(LineFault::Bad);
     };
-    fact_behind(alloc, object, &leaf, rest)
+    fact_behind(pool, object, &leaf, rest)
 }
 
 /// The fact that begins with a constant, and goes on with the leaf, behind which these tokens stand.
 pub fn fact_behind(
-    alloc: Global,
+    pool: &mut TextPool,
     object: Const,
     leaf: &Leaf,
     rest: SentTokens<'_>,
@@ -40,19 +39,19 @@ pub fn fact_behind(
     ensures { Gives (λ fact. fact) result (fact_behind object (seen rest.entry) leaf.now) }
 {
     match leaf {
-        Leaf::Hash => read_member(alloc, object, rest),
-        Leaf::OpenSquare => read_frame(alloc, object, rest),
-        Leaf::Open => read_atom(alloc, object, rest),
+        Leaf::Hash => read_member(pool, object, rest),
+        Leaf::OpenSquare => read_frame(pool, object, rest),
+        Leaf::Open => read_atom(pool, object, rest),
         _ => Err(LineFault::Bad),
     }
 }
 
 // A membership, behind its `#`.
 #[tactic(auto, unfolding(crate::specs::ReadingItems::member_from))]
-fn read_member(alloc: Global, object: Const, at: SentTokens<'_>) -> Result<Fact, LineFault>
+fn read_member(pool: &mut TextPool, object: Const, at: SentTokens<'_>) -> Result<Fact, LineFault>
     ensures { Gives (λ fact. fact) result (member_from object (seen at.entry)) }
 {
-    let (class, rest) = read_const(alloc, at)?;
+    let (class, rest) = read_const(pool, at)?;
     if !rest.is_empty() {
         return Err(LineFault::Bad);
     }
@@ -61,12 +60,13 @@ fn read_member(alloc: Global, object: Const, at: SentTokens<'_>) -> Result<Fact,
 
 // A frame, behind its `[`.
 #[tactic(auto, unfolding(crate::specs::ReadingItems::frame_from))]
-fn read_frame(alloc: Global, object: Const, at: SentTokens<'_>) -> Result<Fact, LineFault>
+fn read_frame(pool: &mut TextPool, object: Const, at: SentTokens<'_>) -> Result<Fact, LineFault>
     ensures { Gives (λ fact. fact) result (frame_from object (seen at.entry)) }
 {
-    let (slot, rest) = read_const(alloc, at)?;
-    let (value, rest) = read_const(alloc, rest.past_arrow(alloc)?)?;
-    let rest = rest.past_close_square(alloc)?;
+    let (slot, rest) = read_const(pool, at)?;
+    let rest = rest.past_arrow(pool)?;
+    let (value, rest) = read_const(pool, rest)?;
+    let rest = rest.past_close_square(pool)?;
     if !rest.is_empty() {
         return Err(LineFault::Bad);
     }
@@ -75,13 +75,13 @@ fn read_frame(alloc: Global, object: Const, at: SentTokens<'_>) -> Result<Fact, 
 
 // An atom, behind its `(`.
 #[tactic(auto, unfolding(crate::specs::ReadingItems::atom_from))]
-fn read_atom(alloc: Global, predicate: Const, at: SentTokens<'_>) -> Result<Fact, LineFault>
+fn read_atom(pool: &mut TextPool, predicate: Const, at: SentTokens<'_>) -> Result<Fact, LineFault>
     ensures { Gives (λ fact. fact) result (atom_from predicate (seen at.entry)) }
 {
     if !is_name(&predicate) {
         return Err(LineFault::Bad);
     }
-    let (arguments, rest) = read_consts(alloc, at)?;
+    let (arguments, rest) = read_consts(pool, at)?;
     if !rest.is_empty() {
         return Err(LineFault::Bad);
     }

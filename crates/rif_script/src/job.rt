@@ -27,8 +27,8 @@ pub struct Job {
 /// document, and then 17 to 20 of its script, each exactly at its place.
 ///
 /// The cost is linear in the bytes, and in the IRIs that CURIEs stand for. Beside the job, memory is taken for the
-/// tokens of the document and for the list of what they stand for, which is about as large, for their texts and the
-/// document's prefixes, and for the tokens of one line of the script.
+/// tokens of the document and for the list of what they stand for, which is about as large, for the document's
+/// prefixes, for a pool of texts at a time, and for the tokens of one line of the script.
 ///
 /// Source: our own (docs/FORMATS.md, "Jobs" and "Refusals").
 pub fn read_job(alloc: Global, bytes: &[u8]) -> Result<Job, Fault>

@@ -9,7 +9,7 @@ ghost use Rattle.rif_script.specs.ScriptSteps.{budgets_with, client_with};
 
 use crate::document_part::first_line;
 use crate::script_line::{Line, read_line};
-use prd_reader::Prefixes;
+use prd_reader::{Prefixes, TextPool};
 use rif_lex::Token;
 use rif_terms::limits::{MOST_BUDGETS, MOST_CLIENTS, MOST_ITEMS};
 use rif_terms::{Fault, Listed, OutOfMemory, Refusal, Text};
@@ -26,8 +26,8 @@ pub struct Script {
 }
 
 /// The script of a text whose first line has this number, or the refusal of its first faulty line. The
-/// cost is the text's length; for a line memory is taken for its item and a new client's name, and the room
-/// for its tokens is used again.
+/// cost is the text's length; for a line memory is taken for its item and a new client's name. The room for its
+/// tokens is used again, and one pool makes the texts of all lines, so that names which come again share their bytes.
 ///
 /// Source: our own (docs/FORMATS.md, "Jobs").
 pub fn read_script(
@@ -45,11 +45,12 @@ pub fn read_script(
         budgets: 0,
     };
     let mut found = Vec::new(alloc);
+    let mut pool = TextPool::new(alloc)?;
     let mut number = first;
     let mut rest = text;
     while !rest.is_empty() {
         let (line, behind) = first_line(rest);
-        script = script.with_line(alloc, &mut found, prefixes, line, number)?;
+        script = script.with_line(&mut pool, &mut found, prefixes, line, number)?;
         number += 1;
         rest = behind;
     }
@@ -67,7 +68,7 @@ impl Script {
     #[tactic(auto, unfolding(crate::specs::ReadingLines::with_line))]
     fn with_line(
         self,
-        alloc: Global,
+        pool: &mut TextPool,
         found: &mut Vec<Token>,
         prefixes: &Prefixes,
         line: &[u8],
@@ -77,10 +78,10 @@ impl Script {
         ensures is { Answers result (with_line prefixes.now number self line.now) }
         ensures few { IfOk result (λ script. length script.names ≤ MOST_CLIENTS) }
     {
-        match read_line(alloc, found, prefixes, line)? {
+        match read_line(pool, found, prefixes, line)? {
             None => Err(Fault::Refused(Refusal::BadLine { line: number })),
             Some(Line::Skipped) => Ok(self),
-            Some(Line::Sent(name, item)) => self.with_sent(alloc, name, item, number),
+            Some(Line::Sent(name, item)) => self.with_sent(pool.alloc(), name, item, number),
         }
     }
 

@@ -11,12 +11,11 @@ ghost use Rattle.rif_script.specs.SentLines.{Finds, HasText, line_view};
 use crate::items::read_item;
 use crate::line_fault::LineFault;
 use crate::sent_tokens::SentTokens;
-use prd_reader::{Prefixes, text_of};
+use prd_reader::{Prefixes, TextPool, text_of};
 use rif_lex::{Kind, Token, tokens_into};
 use rif_terms::limits::MOST_NAME_CHARACTERS;
 use rif_terms::{Fault, OutOfMemory};
 use session_states::Item;
-use std::alloc::Global;
 
 /// What a line of a script is.
 #[derive(Drop)]
@@ -28,11 +27,12 @@ pub enum Line<'a> {
 }
 
 /// What a line is, with or without its line feed, or nothing where it has none of the forms. Its tokens
-/// are put into the list, whose room is used again. The cost is the line's length.
+/// are put into the list, whose room is used again, and the pool makes the texts of its item. The cost is the
+/// line's length.
 ///
 /// Source: our own (docs/FORMATS.md, "Jobs").
 pub fn read_line<'a>(
-    alloc: Global,
+    pool: &mut TextPool,
     found: &mut Vec<Token>,
     prefixes: &Prefixes,
     line: &'a [u8],
@@ -40,7 +40,7 @@ pub fn read_line<'a>(
     ensures is { IfOk result (λ given. option_map line_view given ≡ line_at prefixes.now line.now) }
     ensures text { IfOk result (λ given. IfSome given HasText) }
 {
-    match line_in(alloc, found, prefixes, line) {
+    match line_in(pool, found, prefixes, line) {
         Ok(given) => Ok(Some(given)),
         Err(LineFault::Bad) => Ok(None),
         Err(LineFault::OutOfMemory) => Err(OutOfMemory),
@@ -49,7 +49,7 @@ pub fn read_line<'a>(
 
 #[tactic(auto, unfolding(crate::specs::ReadingLines::line_at))]
 fn line_in<'a>(
-    alloc: Global,
+    pool: &mut TextPool,
     found: &mut Vec<Token>,
     prefixes: &Prefixes,
     line: &'a [u8],
@@ -61,7 +61,7 @@ fn line_in<'a>(
         return Ok(Line::Skipped);
     }
     find_tokens(found, line)?;
-    line_of(alloc, prefixes, line, found.as_slice())
+    line_of(pool, prefixes, line, found.as_slice())
 }
 
 fn is_comment(line: &[u8]) -> bool
@@ -86,7 +86,7 @@ fn find_tokens(found: &mut Vec<Token>, line: &[u8]) -> Result<(), LineFault>
 
 // What the tokens of a line are.
 fn line_of<'a>(
-    alloc: Global,
+    pool: &mut TextPool,
     prefixes: &Prefixes,
     line: &'a [u8],
     tokens: &[Token],
@@ -98,14 +98,14 @@ fn line_of<'a>(
     if tokens.is_empty() {
         return Ok(Line::Skipped);
     }
-    let (name, item) = read_sent(alloc, prefixes, line, tokens)?;
+    let (name, item) = read_sent(pool, prefixes, line, tokens)?;
     Ok(Line::Sent(name, item))
 }
 
 // A client's name, and the item that it sends.
 #[tactic(auto, unfolding(crate::specs::ReadingItems::sent_from))]
 fn read_sent<'a>(
-    alloc: Global,
+    pool: &mut TextPool,
     prefixes: &Prefixes,
     line: &'a [u8],
     tokens: &[Token],
@@ -120,7 +120,7 @@ fn read_sent<'a>(
     }
     let name = name_of(line, tokens[0])?;
     let word = word_text(line, tokens[1])?;
-    let item = read_item(alloc, word, SentTokens::new(prefixes, line, tokens, 2))?;
+    let item = read_item(pool, word, SentTokens::new(prefixes, line, tokens, 2))?;
     Ok((name, item))
 }
 

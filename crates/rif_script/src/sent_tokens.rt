@@ -4,10 +4,9 @@ ghost use Rattle.rif_script.specs.ReadingItems.{is_carets, is_known_type};
 
 use crate::line_fault::LineFault;
 use crate::signs::{behind_arrow, behind_close_square};
-use prd_reader::{Behind, Leaf, Prefixes, leaf_at};
+use prd_reader::{Behind, Leaf, Prefixes, TextPool, leaf_at};
 use rif_lex::Token;
 use rif_terms::OutOfMemory;
-use std::alloc::Global;
 
 /// What is left to read of a line: its tokens from a place on, with the prefixes of the document.
 #[derive(Clone, Copy)]
@@ -64,24 +63,28 @@ impl<'a> SentTokens<'a> {
     }
 
     /// The first leaf, and the tokens behind it.
-    pub fn first(self, alloc: Global) -> Result<Option<(Leaf, SentTokens<'a>)>, OutOfMemory>
+    pub fn first(self, pool: &mut TextPool) -> Result<Option<(Leaf, SentTokens<'a>)>, OutOfMemory>
         ensures { IfOk result (λ found. MatchOption found (seen self.entry ≡ [])
             (λ first. seen self.entry ≡ first.0 ∷ leaves_past (first.0 ∷ []) first.1)) }
     {
         if self.at == self.tokens.len() {
             return Ok(None);
         }
-        Ok(Some(self.next(alloc, Behind::Other)?))
+        Ok(Some(self.next(pool, Behind::Other)?))
     }
 
     // The leaf of the next token, before which this stands, and the tokens behind it.
-    fn next(self, alloc: Global, behind: Behind) -> Result<(Leaf, SentTokens<'a>), OutOfMemory>
+    fn next(
+        self,
+        pool: &mut TextPool,
+        behind: Behind,
+    ) -> Result<(Leaf, SentTokens<'a>), OutOfMemory>
         requires { self.at < length self.tokens.now }
         ensures { IfOk result (IsNext self.entry (front_of behind)) }
     {
         let rest = &self.tokens[self.at + 1..];
         let token = self.tokens[self.at];
-        let leaf = leaf_at(alloc, self.prefixes, behind, token, rest, self.bytes)?;
+        let leaf = leaf_at(pool, self.prefixes, behind, token, rest, self.bytes)?;
         Ok((
             leaf,
             SentTokens {
@@ -94,47 +97,47 @@ impl<'a> SentTokens<'a> {
     }
 
     /// The tokens behind `^^` and a type.
-    pub fn past_type(self, alloc: Global) -> Result<SentTokens<'a>, LineFault>
+    pub fn past_type(self, pool: &mut TextPool) -> Result<SentTokens<'a>, LineFault>
         ensures { Gives seen result (past_type (seen self.entry)) }
     {
-        let Some((leaf, rest)) = self.first(alloc)? else {
+        let Some((leaf, rest)) = self.first(pool)? else {
             return Err(LineFault::Bad);
         };
         if is_carets(&leaf) {
-            rest.past_name(alloc)
+            rest.past_name(pool)
         } else {
             Err(LineFault::Bad)
         }
     }
 
     /// The tokens behind `->`.
-    pub fn past_arrow(self, alloc: Global) -> Result<SentTokens<'a>, LineFault>
+    pub fn past_arrow(self, pool: &mut TextPool) -> Result<SentTokens<'a>, LineFault>
         ensures { Gives seen result (past_arrow (seen self.entry)) }
     {
-        let Some((leaf, rest)) = self.first(alloc)? else {
+        let Some((leaf, rest)) = self.first(pool)? else {
             return Err(LineFault::Bad);
         };
         behind_arrow(leaf, rest)
     }
 
     /// The tokens behind `]`.
-    pub fn past_close_square(self, alloc: Global) -> Result<SentTokens<'a>, LineFault>
+    pub fn past_close_square(self, pool: &mut TextPool) -> Result<SentTokens<'a>, LineFault>
         ensures { Gives seen result (past_close_square (seen self.entry)) }
     {
-        let Some((leaf, rest)) = self.first(alloc)? else {
+        let Some((leaf, rest)) = self.first(pool)? else {
             return Err(LineFault::Bad);
         };
         behind_close_square(leaf, rest)
     }
 
     // The tokens behind a type, which stand behind `^^`.
-    fn past_name(self, alloc: Global) -> Result<SentTokens<'a>, LineFault>
+    fn past_name(self, pool: &mut TextPool) -> Result<SentTokens<'a>, LineFault>
         ensures { Gives seen result (past_name (leaves_past (Carets ∷ []) self.entry)) }
     {
         if self.at == self.tokens.len() {
             return Err(LineFault::Bad);
         }
-        let (leaf, rest) = self.next(alloc, Behind::Carets)?;
+        let (leaf, rest) = self.next(pool, Behind::Carets)?;
         if is_known_type(&leaf) {
             Ok(rest)
         } else {

@@ -8,8 +8,8 @@ use Rattle.prd_reader.specs.LeafSteps.{front_from, front_of}
 use Rattle.prd_reader.proofs.LeafLemmas.{token_at, leaf_given, declared_given, declared_more, leaves_next}
 use Rattle.prd_reader.proofs.document_leaves.leaves.Goals as goal
 
-pub leaf_in-requires : goal.leaf_in-requires
-leaf_in-requires c = token_at c.args.bytes.now c.args.tokens.now c.loop-at.at _ c.requires c.loop-at-test.true
+pub leaf_at-requires : goal.leaf_at-requires
+leaf_at-requires c = token_at c.args.bytes.now c.args.tokens.now c.loop-at.at _ c.requires c.loop-at-test.true
 
 pub loop-at-preserved : goal.loop-at-preserved
 loop-at-preserved c =

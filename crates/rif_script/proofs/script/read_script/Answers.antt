@@ -6,7 +6,7 @@ use Rattle.rif_script.proofs.script.read_script.Goals as goal
 pub returns-in_err-script : goal.returns-in_err-script
 returns-in_err-script c =
     let some_ = not_empty c.loop-rest.rest.now c.is_empty.result c.is_empty.ensures c.loop-rest-test.true in
-    let p = err_from_is_err_and c.from_residual.result c.from_residual.ensures.1 in
+    let p = err_from_is_err_and c.from_residual-in_err-script.result c.from_residual-in_err-script.ensures.1 in
     rw (p.1, p.2) (line_ends c.args.prefixes.now c.loop-rest.number c.loop-rest.script c.loop-rest.rest.now _ _ some_
     c.first_line.ensures.line c.first_line.ensures.behind _ c.in_err-script.field-0.0 c.loop-rest.invariant.lines
     c.in_err-script.ensures.is)

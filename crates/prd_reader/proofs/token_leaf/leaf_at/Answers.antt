@@ -1,6 +1,6 @@
 use Rattle.rif_lex.specs.Spelling.{written}
 use Rattle.prd_reader.proofs.TokenLemmas.{int_digits, local_utf8, var_utf8, str_utf8, iri_utf8}
-use Rattle.prd_reader.proofs.token_leaf.leaf_in.Goals as goal
+use Rattle.prd_reader.proofs.token_leaf.leaf_at.Goals as goal
 
 pub text-requires : goal.text-requires
 text-requires c =

@@ -1,6 +1,6 @@
 use Rattle.std.proofs.Common.{◌≡◌, ◌∙◌, sym, subst, IfOk, List, ℕ}
 use Rattle.prd_reader.proofs.EscapeLemmas.{plain_is, unescaped_utf8}
-use Rattle.prd_reader.proofs.literal.unescaped.Goals as goal
+use Rattle.prd_reader.proofs.text_pool.TextPool.unescaped.Goals as goal
 
 pub returns-then-not-has_escape : goal.returns-then-not-has_escape
 returns-then-not-has_escape c =
@@ -8,5 +8,6 @@ returns-then-not-has_escape c =
     let plain = plain_is c.args.text.now none in
     subst (λ (t : List ℕ). IfOk c.text.result (λ made. made ≡ t)) (sym plain) c.text.ensures
 
-pub text-requires-2 : goal.text-requires-2
-text-requires-2 c = rw (c.as_slice.ensures.value, c.in_ok-bytes.ensures) (unescaped_utf8 c.args.text.now c.requires)
+pub text_among-requires : goal.text_among-requires
+text_among-requires c =
+    rw (c.as_slice.ensures.value, c.in_ok-unescape.ensures) (unescaped_utf8 c.args.text.now c.requires)
