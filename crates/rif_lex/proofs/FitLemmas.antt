@@ -29,9 +29,9 @@ pub digits_length_le : (bs : List ℕ) → digits_length bs ≤ length bs
 digits_length_le [] = omega arith
 digits_length_le (b ∷ bs) = elim (is_digit (class_at b))
     as (λ v. cond v (suc (digits_length bs)) 0 ≤ suc (length bs)) [
-  | true ↦ omega (arith, digits_length_le bs)
-  | false ↦ omega arith
-]
+      | true ↦ omega (arith, digits_length_le bs)
+      | false ↦ omega arith
+    ]
 
 -- an end, if there is one, is at most so many bytes on
 abbrev EndsWithin : Option ℕ → ℕ → Type 0
