@@ -4,7 +4,7 @@
 //! |---|---|---|
 //! | `job.rt` | `Job`, a document and the items of its clients; `read_job` | `specs/Jobs.antt` |
 //! | `document_part.rt` | a job's document and its script, and the lines of a text | `specs/Jobs.antt` |
-//! | `script.rt`, `script_line.rt` | the clients and items of a script, and what a line of it is | `specs/Jobs.antt` |
+//! | `script.rt`, `script_line.rt` | the clients and items of a script, and what its lines are | `specs/Jobs.antt` |
 //! | `simple.rt` | `simple_job`, whether a job is one that a run can evaluate yet | `specs/Simple.antt` |
 //! | `simple_rule.rt`, `simple_formula.rt` | the same of a rule and of a formula | `specs/Simple.antt` |
 //! | `items.rt`, `facts.rt`, `constants.rt` | what the tokens of a line are | `specs/Jobs.antt` |

@@ -97,7 +97,8 @@ fn push_modify(
     slot: &Const,
     value: &Const,
 ) -> Result<(), OutOfMemory>
-    ensures { OnOk result (out.new.items ≡ out.old.items ++ change_text (Change.Modify object.now slot.now value.now)) }
+    ensures { OnOk result
+        (out.new.items ≡ out.old.items ++ change_text (Change.Modify object.now slot.now value.now)) }
 {
     out.extend_from_slice(b"modify ")?;
     push_const(out, object)?;
