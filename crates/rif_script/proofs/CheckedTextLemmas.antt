@@ -63,7 +63,8 @@ gap_plain space rest plain = plain false
 gap_plain line_feed rest plain = plain true
 
 tokens_plain : (ss : List Spelled) → AreSeparate ss →
-    All (λ (w : Written). line_feeds w.text ≡ 0) (map (λ s. s.token) ss) → (begins : Bool) → is_plain begins (spelled_text ss) ≡ true
+    All (λ (w : Written). line_feeds w.text ≡ 0) (map (λ s. s.token) ss) → (begins : Bool) →
+    is_plain begins (spelled_text ss) ≡ true
 tokens_plain [] separate lines begins = refl
 tokens_plain (s ∷ ss) separate lines begins =
     let P = λ (w : Written). line_feeds w.text ≡ 0 in

@@ -44,7 +44,8 @@ text_is_valid bytes at utf8 valid =
 
 -- a script and a refusal of the same lines
 script_or_refusal : (p q : Prefixes) (lines : List (List ℕ)) (at : ℕ) (names : List (List ℕ))
-    (items : List (ℕ × Item)) (refusal : Refusal) → p ≡ q → IsScript p lines names items → IsScriptRefusal q lines at refusal → ⊥
+    (items : List (ℕ × Item)) (refusal : Refusal) → p ≡ q → IsScript p lines names items →
+    IsScriptRefusal q lines at refusal → ⊥
 script_or_refusal p q lines at names items refusal same script refused =
     let s = script_again p at lines names items script in
     let r = refused_again q at lines refusal refused in
