@@ -1,17 +1,16 @@
 -- An input that a command is for isn't refused to it.
-use Rattle.std.proofs.Common.{◌≡◌, ◌∙◌, ◌≤◌, ◌+◌, ℕ, List, [], ◌∷◌, codes, length, take, drop, true, false, Option, Some, None, IfSome, refl, sym, ap, subst, ⊎_elim, arith}
+use Rattle.std.proofs.Common.{◌≡◌, ◌∙◌, ◌≤◌, ℕ, List, length, take, drop, Option, Some, IfSome, refl, ap, subst, ⊎_elim, arith}
 use Rattle.std.proofs.lemmas.List.{take_all}
 use Rattle.rif_terms.specs.declared.limits.TheConstants.{MOST_INPUT_BYTES}
 use Rattle.rif_terms.specs.declared.refusal.Refusal.{Refusal}
 use Rattle.rif_script.specs.declared.job.Job.{Job}
-use Rattle.rif_script.specs.Jobs.{IsJob}
 use Rattle.rif_script.specs.Simple.{is_simple_job}
 use Rattle.rif_script.proofs.CallerLemmas.{jobs_have_one_outcome}
 use Rattle.rif_run.specs.declared.command.Command.{Command}
 use Rattle.rif_run.specs.declared.command.Command.TheVariants.{Check, Run}
 use Rattle.rif_run.specs.declared.status.Status.{Status}
 use Rattle.rif_run.specs.declared.status.Status.TheVariants.{Done, Refused, Usage, ReadFault, WriteFault, OutOfMemory}
-use Rattle.rif_run.specs.Answer.{IsAnswerTo, IsRefusedTo}
+use Rattle.rif_run.specs.Answer.{IsRefusedTo}
 use Rattle.rif_run.specs.Commands.{IsCommand}
 use Rattle.rif_run.specs.Job.{IsOtherJob, IsSimpleJob}
 use Rattle.rif_run.specs.Reading.{ReadsFront}
