@@ -1,11 +1,11 @@
 -- Targets, actions, declarations and blocks that are spelled are built to their values.
 use Rattle.std.proofs.Common.{◌≡◌, ℕ, ◌≤◌, zero, suc, true, false, List, [], ◌∷◌, ◌++◌, length, length-append, Some}
 use Rattle.std.proofs.Common.{refl, ap, ◌∙◌, append_assoc, arith, drop}
-use Rattle.rif_terms.specs.declared.tree.Term.{Term}
-use Rattle.rif_terms.specs.declared.rule.Target.TheVariants.{Atom as AtomTarget, Frame as FrameTarget}
-use Rattle.rif_terms.specs.declared.rule.Target.TheVariants.{Member as MemberTarget}
-use Rattle.rif_terms.specs.declared.rule.Action.TheVariants.{Assert, Retract, RetractSlot, Modify}
-use Rattle.rif_terms.specs.declared.rule.Decl.TheVariants.{Slot, New}
+use Rattle.rif_tree.specs.declared.tree.Term.{Term}
+use Rattle.rif_tree.specs.declared.rule.Target.TheVariants.{Atom as AtomTarget, Frame as FrameTarget}
+use Rattle.rif_tree.specs.declared.rule.Target.TheVariants.{Member as MemberTarget}
+use Rattle.rif_tree.specs.declared.rule.Action.TheVariants.{Assert, Retract, RetractSlot, Modify}
+use Rattle.rif_tree.specs.declared.rule.Decl.TheVariants.{Slot, New}
 use Rattle.prd_reader.specs.declared.leaf.Leaf.{Leaf}
 use Rattle.prd_reader.specs.declared.leaf.Leaf.TheVariants.{Var, Open, Close, CloseSquare, Arrow, Hash, OpenSquare}
 use Rattle.prd_reader.specs.declared.building.signs.TailSign.TheVariants.{Other as OtherSign}

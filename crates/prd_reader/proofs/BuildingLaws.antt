@@ -2,8 +2,8 @@
 use Rattle.std.proofs.Common.{◌≡◌, ℕ, ◌+◌, ◌-◌, ◌≤◌, zero, suc, ℤ, pos, List, [], ◌∷◌, ◌++◌, length, length-append}
 use Rattle.std.proofs.Common.{take, Option, Some, None, refl, ap, ◌∙◌, sym, append_assoc, append-nil, arith, drop}
 use Rattle.std.proofs.lemmas.List.{take-append-le, take_all}
-use Rattle.rif_terms.specs.declared.rule.Rule.{Rule}
-use Rattle.rif_terms.specs.declared.rule.Doc.{Doc}
+use Rattle.rif_tree.specs.declared.rule.Rule.{Rule}
+use Rattle.rif_tree.specs.declared.rule.Doc.{Doc}
 use Rattle.prd_reader.specs.declared.leaf.Leaf.{Leaf}
 use Rattle.prd_reader.specs.declared.leaf.Leaf.TheVariants.{Close}
 use Rattle.prd_reader.specs.declared.building.signs.MemberSign.TheVariants.{Close as MembersEnd}

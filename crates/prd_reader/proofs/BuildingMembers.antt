@@ -3,7 +3,7 @@ use Rattle.std.proofs.Common.{◌≡◌, ℕ, ◌+◌, ◌-◌, ◌≤◌, suc, 
 use Rattle.std.proofs.Common.{None, refl, ap, ◌∙◌, sym, arith, drop}
 use Rattle.std.proofs.lemmas.List.{drop-drop}
 use Rattle.std.specs.Option.{option_to_list}
-use Rattle.rif_terms.specs.declared.rule.Rule.{Rule}
+use Rattle.rif_tree.specs.declared.rule.Rule.{Rule}
 use Rattle.prd_reader.specs.declared.leaf.Leaf.{Leaf}
 use Rattle.prd_reader.specs.declared.building.signs.MemberSign.{MemberSign}
 use Rattle.prd_reader.specs.declared.building.signs.MemberSign.TheVariants.{Close as MembersEnd}

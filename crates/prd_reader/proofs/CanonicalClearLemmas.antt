@@ -4,8 +4,8 @@ use Rattle.std.proofs.Common.{List, [], ◌∷◌, refl, ap, ◌∙◌, sym, sub
 use Rattle.std.proofs.Common.{if◌then◌else◌}
 use Rattle.std.proofs.lemmas.Bool.{or_from, or_parts}
 use Rattle.std.specs.declared.option.Option.{Option}
-use Rattle.rif_terms.specs.declared.limits.TheConstants.{MOST_RULES}
-use Rattle.rif_terms.specs.declared.rule.Rule.{Rule}
+use Rattle.rif_refusals.specs.declared.limits.TheConstants.{MOST_RULES}
+use Rattle.rif_tree.specs.declared.rule.Rule.{Rule}
 use Rattle.prd_reader.specs.declared.cause.Cause.{Cause}
 use Rattle.prd_reader.specs.declared.cause.Cause.TheVariants.{TooDeep}
 use Rattle.prd_reader.specs.declared.leaf.Leaf.{Leaf}

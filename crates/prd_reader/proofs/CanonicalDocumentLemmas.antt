@@ -1,12 +1,12 @@
 -- The canonical tree of a document stands for the same document.
 use Rattle.std.proofs.Common.{◌≡◌, ℕ, ℤ, pos, List, ◌∷◌, ◌++◌, refl, ap, ◌∙◌, sym, append_assoc, append-nil}
 use Rattle.std.specs.declared.option.Option.{Option}
-use Rattle.rif_terms.specs.declared.tree.Formula.{Formula}
-use Rattle.rif_terms.specs.declared.tree.Level.{Level}
-use Rattle.rif_terms.specs.declared.rule.Action.{Action}
-use Rattle.rif_terms.specs.declared.rule.Decl.{Decl}
-use Rattle.rif_terms.specs.declared.rule.Rule.{Rule}
-use Rattle.rif_terms.specs.declared.rule.Doc.{Doc}
+use Rattle.rif_tree.specs.declared.tree.Formula.{Formula}
+use Rattle.rif_tree.specs.declared.tree.Level.{Level}
+use Rattle.rif_tree.specs.declared.rule.Action.{Action}
+use Rattle.rif_tree.specs.declared.rule.Decl.{Decl}
+use Rattle.rif_tree.specs.declared.rule.Rule.{Rule}
+use Rattle.rif_tree.specs.declared.rule.Doc.{Doc}
 use Rattle.prd_reader.specs.Trees.{BlockTree, RuleTree, GroupTree, group, MemberTrees, no_members, rule_member}
 use Rattle.prd_reader.specs.Trees.{group_member, PrefixTrees, no_group, one_group, prefix, DocumentTree, document}
 use Rattle.prd_reader.specs.Values.{rule_names, rule_levels, rule_condition, rule_block, block_decls, block_actions}

@@ -4,8 +4,8 @@ use Rattle.std.proofs.Common.{sym, arith, length-append}
 use Rattle.std.proofs.lemmas.Bool.{eqb-true}
 use Rattle.std.proofs.lemmas.List.{take_at}
 use Rattle.std.specs.List.{flat_map}
-use Rattle.rif_terms.specs.Writing.{escaped, const_text}
-use Rattle.rif_terms.specs.declared.constant.Const.TheVariants.{Str, Iri}
+use Rattle.rif_values.specs.Writing.{escaped, const_text}
+use Rattle.rif_values.specs.declared.constant.Const.TheVariants.{Str, Iri}
 use Rattle.prd_reader.specs.Leaves.{inner}
 use Rattle.prd_reader.specs.Literals.{unescaped, unescaped_from}
 

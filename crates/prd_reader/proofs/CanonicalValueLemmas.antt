@@ -1,6 +1,6 @@
 -- The canonical tree of a tree stands for the same, where names are given.
 use Rattle.std.proofs.Common.{◌≡◌, ℕ, Bool, true, false, List, refl}
-use Rattle.rif_terms.specs.declared.constant.Const.TheVariants.{Bool as BoolConst}
+use Rattle.rif_values.specs.declared.constant.Const.TheVariants.{Bool as BoolConst}
 use Rattle.prd_reader.specs.declared.leaf.Literal.{Literal}
 use Rattle.prd_reader.specs.declared.leaf.Literal.TheVariants.{Integer, Boolean, String, Iri as IriLiteral}
 use Rattle.prd_reader.specs.declared.leaf.Literal.TheVariants.{Local as LocalLiteral, OfNoType}

@@ -25,7 +25,7 @@ use Rattle.prd_reader.specs.declared.want.Want.TheVariants.{RetractedAfterName, 
 use Rattle.prd_reader.specs.declared.want.Want.TheVariants.{BuiltinOfFormula, Tail, AfterName, Term, Terms, FuncName}
 use Rattle.prd_reader.specs.declared.want.Want.TheVariants.{Pairs, TypeName, Open, Close, OpenSquare, CloseSquare}
 use Rattle.prd_reader.specs.declared.want.Want.TheVariants.{Arrow, Carets, That, Then, Do}
-use Rattle.rif_terms.specs.declared.builtin.Func.{Func}
+use Rattle.rif_tree.specs.declared.builtin.Func.{Func}
 use Rattle.prd_reader.specs.Following.{followed}
 use Rattle.prd_reader.specs.Trees.{NameTree, TermTree, TermTrees, FuncTree, func_leaf, PairTrees, Tail as TailTree}
 use Rattle.prd_reader.specs.Trees.{Vars, PredTree, pred_leaf, FormulaTree, FormulaTrees, TargetTree, ActionTrees}

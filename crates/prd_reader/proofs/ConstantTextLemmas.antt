@@ -9,9 +9,9 @@ use Rattle.std.specs.List.{flat_map, list_all}
 use Rattle.std.proofs.lemmas.Bool.{ltb-true, ltb-false}
 use Rattle.std.proofs.lemmas.Fmt.{IsAscii-decimal_wide}
 use Rattle.std.proofs.lemmas.Str.{encode_ascii, IsUtf8-nil, IsUtf8-append, IsUtf8-from_ascii}
-use Rattle.rif_terms.specs.Writing.{escaped, truth_text, const_text}
-use Rattle.rif_terms.specs.declared.constant.Const.{Const}
-use Rattle.rif_terms.specs.declared.constant.Const.TheVariants.{Int, Bool as BoolConst, Str, Iri, Local, Fresh}
+use Rattle.rif_values.specs.Writing.{escaped, truth_text, const_text}
+use Rattle.rif_values.specs.declared.constant.Const.{Const}
+use Rattle.rif_values.specs.declared.constant.Const.TheVariants.{Int, Bool as BoolConst, Str, Iri, Local, Fresh}
 use Rattle.prd_reader.specs.Writable.{IsWritableConst}
 use Rattle.prd_reader.proofs.EscapeLemmas.{AreHigh, high_rest, high_apart, high_character, low_utf8, character_utf8}
 use Rattle.prd_reader.proofs.EscapeLemmas.{both}

@@ -3,7 +3,7 @@ use Rattle.std.proofs.Common.{◌≡◌, ℕ, suc, Bool, true, false, List, [], 
 use Rattle.std.proofs.Common.{length, map, Some, None, if◌then◌else◌}
 use Rattle.std.proofs.lemmas.List.{map-append}
 use Rattle.std.specs.declared.option.Option.{Option}
-use Rattle.rif_terms.specs.declared.rule.Rule.{Rule}
+use Rattle.rif_tree.specs.declared.rule.Rule.{Rule}
 use Rattle.prd_reader.specs.declared.leaf.Leaf.{Leaf}
 use Rattle.prd_reader.specs.declared.progress.Bracket.{Bracket}
 use Rattle.prd_reader.specs.Limits.{CountsAreOfTrees, KeepsLimits, KeepRuleLimits}

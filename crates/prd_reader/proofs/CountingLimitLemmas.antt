@@ -2,7 +2,7 @@
 use Rattle.std.proofs.Common.{◌≡◌, ◌≤◌, ◌<◌, ◌+◌, ◌&&◌, ℕ, suc, Bool, true, false, not, nat_le, List, [], ◌∷◌, ◌++◌}
 use Rattle.std.proofs.Common.{refl, arith, length, take, get_or, length-append, Some, None, if◌then◌else◌, leb-false}
 use Rattle.std.specs.declared.option.Option.{Option}
-use Rattle.rif_terms.specs.declared.limits.TheConstants.{MOST_RULES, MOST_VARIABLES, MOST_PATTERNS, MOST_ACTIONS}
+use Rattle.rif_refusals.specs.declared.limits.TheConstants.{MOST_RULES, MOST_VARIABLES, MOST_PATTERNS, MOST_ACTIONS}
 use Rattle.prd_reader.specs.declared.cause.Cause.{Cause}
 use Rattle.prd_reader.specs.declared.leaf.Leaf.{Leaf}
 use Rattle.prd_reader.specs.declared.leaf.Leaf.TheVariants.{Var}

@@ -3,8 +3,8 @@ use Rattle.std.proofs.Common.{◌≡◌, ◌≤ℤ◌, ◌&&◌, ℤ, pos, neg_�
 use Rattle.std.proofs.Common.{refl, subst, arith, Some, None}
 use Rattle.std.proofs.lemmas.Bool.{not-false}
 use Rattle.std.proofs.lemmas.Int.{ints}
-use Rattle.rif_terms.specs.declared.limits.TheConstants.{MOST_PRIORITY}
-use Rattle.rif_terms.specs.declared.rule.Rule.{Rule}
+use Rattle.rif_refusals.specs.declared.limits.TheConstants.{MOST_PRIORITY}
+use Rattle.rif_tree.specs.declared.rule.Rule.{Rule}
 use Rattle.prd_reader.specs.declared.leaf.Keyword.TheVariants.{Group}
 use Rattle.prd_reader.specs.declared.leaf.Leaf.{Leaf}
 use Rattle.prd_reader.specs.declared.leaf.Leaf.TheVariants.{Key, Int, Iri, Curie, Open, Close}

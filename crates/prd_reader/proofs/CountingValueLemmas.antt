@@ -1,18 +1,18 @@
 -- What is counted along a tree's leaves is what the tree's value has.
 use Rattle.std.proofs.Common.{◌≡◌, ◌+◌, ℕ, suc, List, [], ◌∷◌, refl, ap, ◌∙◌, sym, arith, length, map}
-use Rattle.rif_terms.specs.declared.builtin.Pred.{Pred}
-use Rattle.rif_terms.specs.declared.constant.Const.{Const}
-use Rattle.rif_terms.specs.declared.tree.Term.{Term}
-use Rattle.rif_terms.specs.declared.tree.Formula.{Formula}
-use Rattle.rif_terms.specs.declared.tree.Formula.TheVariants.{And, Or, Not, Exists, Equal, Member, Frame, Atom, Holds}
-use Rattle.rif_terms.specs.declared.tree.Formula.TheVariants.{rolls-And, rolls-Or, rolls-Not, rolls-Exists}
-use Rattle.rif_terms.specs.declared.tree.Formula.TheVariants.{rolls-Equal, rolls-Member, rolls-Frame, rolls-Atom}
-use Rattle.rif_terms.specs.declared.tree.Formula.TheVariants.{rolls-Holds}
-use Rattle.rif_terms.specs.declared.tree.Formula.TheOpen.{And as AndLayer, Or as OrLayer, Not as NotLayer}
-use Rattle.rif_terms.specs.declared.tree.Formula.TheOpen.{Exists as ExistsLayer, Equal as EqualLayer}
-use Rattle.rif_terms.specs.declared.tree.Formula.TheOpen.{Member as MemberLayer, Frame as FrameLayer}
-use Rattle.rif_terms.specs.declared.tree.Formula.TheOpen.{Atom as AtomLayer, Holds as HoldsLayer}
-use Rattle.rif_terms.specs.declared.tree.Formula.TheFolds.{fold-roll-Formula}
+use Rattle.rif_tree.specs.declared.builtin.Pred.{Pred}
+use Rattle.rif_values.specs.declared.constant.Const.{Const}
+use Rattle.rif_tree.specs.declared.tree.Term.{Term}
+use Rattle.rif_tree.specs.declared.tree.Formula.{Formula}
+use Rattle.rif_tree.specs.declared.tree.Formula.TheVariants.{And, Or, Not, Exists, Equal, Member, Frame, Atom, Holds}
+use Rattle.rif_tree.specs.declared.tree.Formula.TheVariants.{rolls-And, rolls-Or, rolls-Not, rolls-Exists}
+use Rattle.rif_tree.specs.declared.tree.Formula.TheVariants.{rolls-Equal, rolls-Member, rolls-Frame, rolls-Atom}
+use Rattle.rif_tree.specs.declared.tree.Formula.TheVariants.{rolls-Holds}
+use Rattle.rif_tree.specs.declared.tree.Formula.TheOpen.{And as AndLayer, Or as OrLayer, Not as NotLayer}
+use Rattle.rif_tree.specs.declared.tree.Formula.TheOpen.{Exists as ExistsLayer, Equal as EqualLayer}
+use Rattle.rif_tree.specs.declared.tree.Formula.TheOpen.{Member as MemberLayer, Frame as FrameLayer}
+use Rattle.rif_tree.specs.declared.tree.Formula.TheOpen.{Atom as AtomLayer, Holds as HoldsLayer}
+use Rattle.rif_tree.specs.declared.tree.Formula.TheFolds.{fold-roll-Formula}
 use Rattle.prd_reader.specs.Limits.{sum_of, patterns_in, pattern_count, patterns_of, level_patterns}
 use Rattle.prd_reader.specs.Limits.{condition_patterns}
 use Rattle.prd_reader.specs.Trees.{PairTrees, last_pair, pairs, Tail, equals, member_of, with_pairs, FormulaTree}

@@ -1,6 +1,6 @@
 -- What reading the leaves of a document gives.
 use Rattle.std.proofs.Common.{◌≡◌, ◌∙◌, ℕ, List, [], length, Option, Some, None, ap, sym, subst}
-use Rattle.rif_terms.specs.declared.rule.Doc.{Doc}
+use Rattle.rif_tree.specs.declared.rule.Doc.{Doc}
 use Rattle.rif_lex.specs.declared.token.Token.{Token}
 use Rattle.prd_reader.specs.declared.cause.Cause.{Cause}
 use Rattle.prd_reader.specs.declared.leaf.Leaf.{Leaf}

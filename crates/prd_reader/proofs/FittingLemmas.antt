@@ -4,7 +4,7 @@ use Rattle.std.proofs.Common.{◌≡◌, ◌≤◌, ◌&&◌, ℕ, suc, Bool, tr
 use Rattle.std.proofs.Common.{subst, arith, length, length-append, Some, None, if◌then◌else◌}
 use Rattle.std.proofs.lemmas.Bool.{and_left, and_right, lt-leb}
 use Rattle.std.specs.declared.option.Option.{Option}
-use Rattle.rif_terms.specs.declared.limits.TheConstants.{MOST_RULES, MOST_VARIABLES, MOST_PATTERNS, MOST_ACTIONS}
+use Rattle.rif_refusals.specs.declared.limits.TheConstants.{MOST_RULES, MOST_VARIABLES, MOST_PATTERNS, MOST_ACTIONS}
 use Rattle.prd_reader.specs.declared.cause.Cause.{Cause}
 use Rattle.prd_reader.specs.declared.leaf.Leaf.{Leaf}
 use Rattle.prd_reader.specs.declared.leaf.Leaf.TheVariants.{Var, Close}

@@ -1,23 +1,23 @@
 -- The equations of spelling at terms and formulas with others inside them.
 use Rattle.std.proofs.Common.{◌≡◌, ℕ, List, ap, ◌∙◌, sym, map, ◌++◌, codes}
-use Rattle.rif_terms.specs.declared.builtin.Func.{Func}
-use Rattle.rif_terms.specs.declared.builtin.Pred.{Pred}
-use Rattle.rif_terms.specs.declared.constant.Const.{Const}
-use Rattle.rif_terms.specs.declared.tree.Term.{Term}
-use Rattle.rif_terms.specs.declared.tree.Term.TheOpen.{Const as ConstLayer, Var as VarLayer, Call as CallLayer}
-use Rattle.rif_terms.specs.declared.tree.Term.TheVariants.{Const as ConstTerm, Var as VarTerm, Call, rolls-Const}
-use Rattle.rif_terms.specs.declared.tree.Term.TheVariants.{rolls-Var, rolls-Call}
-use Rattle.rif_terms.specs.declared.tree.Term.TheFolds.{fold-roll-Term}
-use Rattle.rif_terms.specs.declared.tree.Formula.{Formula}
-use Rattle.rif_terms.specs.declared.tree.Formula.TheOpen.{And as AndLayer, Or as OrLayer, Not as NotLayer}
-use Rattle.rif_terms.specs.declared.tree.Formula.TheOpen.{Exists as ExistsLayer, Equal as EqualLayer}
-use Rattle.rif_terms.specs.declared.tree.Formula.TheOpen.{Member as MemberLayer, Frame as FrameLayer}
-use Rattle.rif_terms.specs.declared.tree.Formula.TheOpen.{Atom as AtomLayer, Holds as HoldsLayer}
-use Rattle.rif_terms.specs.declared.tree.Formula.TheVariants.{And, Or, Not, Exists, Equal, Member, Frame, Atom, Holds}
-use Rattle.rif_terms.specs.declared.tree.Formula.TheVariants.{rolls-And, rolls-Or, rolls-Not, rolls-Exists}
-use Rattle.rif_terms.specs.declared.tree.Formula.TheVariants.{rolls-Equal, rolls-Member, rolls-Frame, rolls-Atom}
-use Rattle.rif_terms.specs.declared.tree.Formula.TheVariants.{rolls-Holds}
-use Rattle.rif_terms.specs.declared.tree.Formula.TheFolds.{fold-roll-Formula}
+use Rattle.rif_tree.specs.declared.builtin.Func.{Func}
+use Rattle.rif_tree.specs.declared.builtin.Pred.{Pred}
+use Rattle.rif_values.specs.declared.constant.Const.{Const}
+use Rattle.rif_tree.specs.declared.tree.Term.{Term}
+use Rattle.rif_tree.specs.declared.tree.Term.TheOpen.{Const as ConstLayer, Var as VarLayer, Call as CallLayer}
+use Rattle.rif_tree.specs.declared.tree.Term.TheVariants.{Const as ConstTerm, Var as VarTerm, Call, rolls-Const}
+use Rattle.rif_tree.specs.declared.tree.Term.TheVariants.{rolls-Var, rolls-Call}
+use Rattle.rif_tree.specs.declared.tree.Term.TheFolds.{fold-roll-Term}
+use Rattle.rif_tree.specs.declared.tree.Formula.{Formula}
+use Rattle.rif_tree.specs.declared.tree.Formula.TheOpen.{And as AndLayer, Or as OrLayer, Not as NotLayer}
+use Rattle.rif_tree.specs.declared.tree.Formula.TheOpen.{Exists as ExistsLayer, Equal as EqualLayer}
+use Rattle.rif_tree.specs.declared.tree.Formula.TheOpen.{Member as MemberLayer, Frame as FrameLayer}
+use Rattle.rif_tree.specs.declared.tree.Formula.TheOpen.{Atom as AtomLayer, Holds as HoldsLayer}
+use Rattle.rif_tree.specs.declared.tree.Formula.TheVariants.{And, Or, Not, Exists, Equal, Member, Frame, Atom, Holds}
+use Rattle.rif_tree.specs.declared.tree.Formula.TheVariants.{rolls-And, rolls-Or, rolls-Not, rolls-Exists}
+use Rattle.rif_tree.specs.declared.tree.Formula.TheVariants.{rolls-Equal, rolls-Member, rolls-Frame, rolls-Atom}
+use Rattle.rif_tree.specs.declared.tree.Formula.TheVariants.{rolls-Holds}
+use Rattle.rif_tree.specs.declared.tree.Formula.TheFolds.{fold-roll-Formula}
 use Rattle.rif_lex.specs.Spelling.{Gap, Spelled, spelled_text}
 use Rattle.prd_reader.specs.Canonical.{Writing, func_text, pred_text, external_spelling, term_step, term_spelling}
 use Rattle.prd_reader.specs.Canonical.{const_spelling, var_spelling, bracket_spelling, not_spelling, exists_spelling}

@@ -2,20 +2,20 @@
 use Rattle.std.proofs.Common.{◌≡◌, ℕ, ℤ, Bool, true, false, if◌then◌else◌, Some, List, [], ◌∷◌, map, refl, ap, ◌∙◌}
 use Rattle.std.proofs.Common.{true≢false}
 use Rattle.std.specs.Fmt.{signed_decimal}
-use Rattle.rif_terms.specs.declared.builtin.Func.{Func}
-use Rattle.rif_terms.specs.declared.builtin.Func.TheVariants.{NumericAdd, NumericSubtract, NumericMultiply}
-use Rattle.rif_terms.specs.declared.builtin.Func.TheVariants.{NumericIntegerDivide, NumericIntegerMod, Not as NotFunc}
-use Rattle.rif_terms.specs.declared.builtin.Func.TheVariants.{Concat, StringLength}
-use Rattle.rif_terms.specs.declared.builtin.Pred.{Pred}
-use Rattle.rif_terms.specs.declared.builtin.Pred.TheVariants.{NumericEqual, NumericNotEqual, NumericLessThan}
-use Rattle.rif_terms.specs.declared.builtin.Pred.TheVariants.{NumericLessThanOrEqual, NumericGreaterThan}
-use Rattle.rif_terms.specs.declared.builtin.Pred.TheVariants.{NumericGreaterThanOrEqual, BooleanEqual}
-use Rattle.rif_terms.specs.declared.builtin.Pred.TheVariants.{BooleanLessThan}
-use Rattle.rif_terms.specs.declared.builtin.Pred.TheVariants.{BooleanGreaterThan, StartsWith, EndsWith, Contains}
-use Rattle.rif_terms.specs.declared.builtin.Pred.TheVariants.{IsLiteralInteger, IsLiteralString, IsLiteralBoolean}
-use Rattle.rif_terms.specs.declared.constant.Const.{Const}
-use Rattle.rif_terms.specs.declared.constant.Const.TheVariants.{Int, Bool as BoolConst, Str, Iri, Local, Fresh}
-use Rattle.rif_terms.specs.Writing.{const_text}
+use Rattle.rif_tree.specs.declared.builtin.Func.{Func}
+use Rattle.rif_tree.specs.declared.builtin.Func.TheVariants.{NumericAdd, NumericSubtract, NumericMultiply}
+use Rattle.rif_tree.specs.declared.builtin.Func.TheVariants.{NumericIntegerDivide, NumericIntegerMod, Not as NotFunc}
+use Rattle.rif_tree.specs.declared.builtin.Func.TheVariants.{Concat, StringLength}
+use Rattle.rif_tree.specs.declared.builtin.Pred.{Pred}
+use Rattle.rif_tree.specs.declared.builtin.Pred.TheVariants.{NumericEqual, NumericNotEqual, NumericLessThan}
+use Rattle.rif_tree.specs.declared.builtin.Pred.TheVariants.{NumericLessThanOrEqual, NumericGreaterThan}
+use Rattle.rif_tree.specs.declared.builtin.Pred.TheVariants.{NumericGreaterThanOrEqual, BooleanEqual}
+use Rattle.rif_tree.specs.declared.builtin.Pred.TheVariants.{BooleanLessThan}
+use Rattle.rif_tree.specs.declared.builtin.Pred.TheVariants.{BooleanGreaterThan, StartsWith, EndsWith, Contains}
+use Rattle.rif_tree.specs.declared.builtin.Pred.TheVariants.{IsLiteralInteger, IsLiteralString, IsLiteralBoolean}
+use Rattle.rif_values.specs.declared.constant.Const.{Const}
+use Rattle.rif_values.specs.declared.constant.Const.TheVariants.{Int, Bool as BoolConst, Str, Iri, Local, Fresh}
+use Rattle.rif_values.specs.Writing.{const_text}
 use Rattle.rif_lex.specs.declared.token.Kind.{Kind}
 use Rattle.rif_lex.specs.declared.token.Kind.TheVariants.{Int as IntKind, Str as StrKind, Iri as IriKind}
 use Rattle.rif_lex.specs.declared.token.Kind.TheVariants.{Local as LocalKind, Carets}

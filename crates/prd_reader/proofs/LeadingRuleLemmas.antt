@@ -1,8 +1,8 @@
 -- The canonical spelling of a document has the leaves of its canonical tree.
 use Rattle.std.proofs.Common.{◌≡◌, ℕ, ℤ, pos, Bool, true, false, true≢false, List, [], ◌∷◌, ◌++◌, map, refl, ap, ◌∙◌}
 use Rattle.std.proofs.Common.{sym, subst, codes, append_assoc, append-nil}
-use Rattle.rif_terms.specs.declared.tree.Level.{Level}
-use Rattle.rif_terms.specs.declared.rule.Rule.{Rule}
+use Rattle.rif_tree.specs.declared.tree.Level.{Level}
+use Rattle.rif_tree.specs.declared.rule.Rule.{Rule}
 use Rattle.rif_lex.specs.Spelling.{joined, space, line_feed, Spelled}
 use Rattle.prd_reader.specs.declared.leaf.Keyword.TheVariants.{Document, Group, Forall, Such, That, If, Then, Do}
 use Rattle.prd_reader.specs.declared.leaf.Leaf.{Leaf}

@@ -1,6 +1,6 @@
 -- Each variable of a rule's value is a place in the rule's names.
 use Rattle.std.proofs.Common.{◌≤◌, ℕ, ℤ, pos, List, [], ◌∷◌, ◌++◌, arith, length}
-use Rattle.rif_terms.specs.declared.rule.Rule.{Rule}
+use Rattle.rif_tree.specs.declared.rule.Rule.{Rule}
 use Rattle.prd_reader.specs.declared.leaf.Leaf.TheVariants.{Var, Open, Close, OpenSquare, CloseSquare, Hash, Arrow}
 use Rattle.prd_reader.specs.Limits.{levels_need, condition_needs, decls_need, target_needs, action_needs}
 use Rattle.prd_reader.specs.Limits.{actions_need, KeepsRulePlaces, KeepRulePlaces, KeepsPlaces}

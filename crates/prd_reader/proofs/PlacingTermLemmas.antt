@@ -1,12 +1,12 @@
 -- Each variable of a tree's value is a place among names that know the variables of its leaves.
 use Rattle.std.proofs.Common.{◌≡◌, ◌≤◌, max, ℕ, suc, List, [], ◌∷◌, ◌++◌, refl, ap, ◌∙◌, sym, arith, length, map}
-use Rattle.rif_terms.specs.declared.builtin.Func.{Func}
-use Rattle.rif_terms.specs.declared.constant.Const.{Const}
-use Rattle.rif_terms.specs.declared.tree.Term.{Term}
-use Rattle.rif_terms.specs.declared.tree.Term.TheVariants.{Const as ConstTerm, Var as VarTerm, Call, rolls-Const}
-use Rattle.rif_terms.specs.declared.tree.Term.TheVariants.{rolls-Var, rolls-Call}
-use Rattle.rif_terms.specs.declared.tree.Term.TheOpen.{Const as ConstLayer, Var as VarLayer, Call as CallLayer}
-use Rattle.rif_terms.specs.declared.tree.Term.TheFolds.{fold-roll-Term}
+use Rattle.rif_tree.specs.declared.builtin.Func.{Func}
+use Rattle.rif_values.specs.declared.constant.Const.{Const}
+use Rattle.rif_tree.specs.declared.tree.Term.{Term}
+use Rattle.rif_tree.specs.declared.tree.Term.TheVariants.{Const as ConstTerm, Var as VarTerm, Call, rolls-Const}
+use Rattle.rif_tree.specs.declared.tree.Term.TheVariants.{rolls-Var, rolls-Call}
+use Rattle.rif_tree.specs.declared.tree.Term.TheOpen.{Const as ConstLayer, Var as VarLayer, Call as CallLayer}
+use Rattle.rif_tree.specs.declared.tree.Term.TheFolds.{fold-roll-Term}
 use Rattle.prd_reader.specs.declared.leaf.Leaf.TheVariants.{Close, CloseSquare, Arrow}
 use Rattle.prd_reader.specs.Limits.{most_of, needed_in, term_needs, terms_need, pairs_need, vars_need}
 use Rattle.prd_reader.specs.Trees.{TermTree, constant, variable, call, TermTrees, no_terms, terms, spell_term}

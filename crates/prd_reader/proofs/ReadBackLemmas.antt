@@ -3,8 +3,8 @@ use Rattle.std.proofs.Common.{◌≡◌, ◌≤◌, ◌∙◌, ◌⊎◌, inl, i
 use Rattle.std.proofs.Common.{List, [], ◌∷◌, ◌++◌, length, IsUtf8, Err}
 use Rattle.std.proofs.lemmas.Bool.{ltb-false}
 use Rattle.std.proofs.lemmas.Str.{IsUtf8-nil, IsUtf8-append}
-use Rattle.rif_terms.specs.declared.limits.TheConstants.{MOST_INPUT_BYTES}
-use Rattle.rif_terms.specs.declared.refusal.Refusal.TheVariants.{InputTooLong}
+use Rattle.rif_refusals.specs.declared.limits.TheConstants.{MOST_INPUT_BYTES}
+use Rattle.rif_refusals.specs.declared.refusal.Refusal.TheVariants.{InputTooLong}
 use Rattle.rif_lex.specs.declared.token.Token.{Token}
 use Rattle.rif_lex.specs.Lexing.{lexed}
 use Rattle.rif_lex.specs.Spelling.{Gap, joined, space, line_feed, gap_text, Spelled, spelled_text}

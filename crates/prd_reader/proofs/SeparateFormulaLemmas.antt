@@ -1,12 +1,12 @@
 -- The canonical spelling of formulas is tokens of which each ends before the next.
 use Rattle.std.proofs.Common.{ℕ, List, ◌∷◌, map, refl, sym, subst, codes}
-use Rattle.rif_terms.specs.declared.builtin.Pred.{Pred}
-use Rattle.rif_terms.specs.declared.builtin.Pred.TheVariants.{NumericEqual, NumericNotEqual, NumericLessThan}
-use Rattle.rif_terms.specs.declared.builtin.Pred.TheVariants.{NumericLessThanOrEqual, NumericGreaterThan}
-use Rattle.rif_terms.specs.declared.builtin.Pred.TheVariants.{NumericGreaterThanOrEqual, BooleanEqual}
-use Rattle.rif_terms.specs.declared.builtin.Pred.TheVariants.{BooleanLessThan, BooleanGreaterThan, StartsWith}
-use Rattle.rif_terms.specs.declared.builtin.Pred.TheVariants.{EndsWith, Contains, IsLiteralInteger, IsLiteralString}
-use Rattle.rif_terms.specs.declared.builtin.Pred.TheVariants.{IsLiteralBoolean}
+use Rattle.rif_tree.specs.declared.builtin.Pred.{Pred}
+use Rattle.rif_tree.specs.declared.builtin.Pred.TheVariants.{NumericEqual, NumericNotEqual, NumericLessThan}
+use Rattle.rif_tree.specs.declared.builtin.Pred.TheVariants.{NumericLessThanOrEqual, NumericGreaterThan}
+use Rattle.rif_tree.specs.declared.builtin.Pred.TheVariants.{NumericGreaterThanOrEqual, BooleanEqual}
+use Rattle.rif_tree.specs.declared.builtin.Pred.TheVariants.{BooleanLessThan, BooleanGreaterThan, StartsWith}
+use Rattle.rif_tree.specs.declared.builtin.Pred.TheVariants.{EndsWith, Contains, IsLiteralInteger, IsLiteralString}
+use Rattle.rif_tree.specs.declared.builtin.Pred.TheVariants.{IsLiteralBoolean}
 use Rattle.rif_lex.specs.declared.token.Kind.TheVariants.{Curie, Hash, Equal as EqualSign}
 use Rattle.rif_lex.specs.Spelling.{IsToken, Gap, joined, space, Spelled, AreSeparate}
 use Rattle.prd_reader.specs.Canonical.{spelled, opening, closing, open_square, close_square, arrow, gap_before}

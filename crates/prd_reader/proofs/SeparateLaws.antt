@@ -1,6 +1,6 @@
 -- The canonical spelling of a document that was read is tokens of which each ends before the next.
 use Rattle.std.proofs.Common.{subst}
-use Rattle.rif_terms.specs.declared.rule.Doc.{Doc}
+use Rattle.rif_tree.specs.declared.rule.Doc.{Doc}
 use Rattle.rif_lex.specs.Spelling.{AreSeparate}
 use Rattle.prd_reader.specs.Canonical.{canonical_spelling}
 use Rattle.prd_reader.specs.Separate.{CanonicalIsSeparate}

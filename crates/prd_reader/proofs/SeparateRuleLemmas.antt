@@ -1,8 +1,8 @@
 -- The canonical spelling of rules and documents is tokens of which each ends before the next.
 use Rattle.std.proofs.Common.{◌≡◌, ℕ, ℤ, pos, ◌<◌, ◌^◌, List, [], ◌∷◌, ◌++◌, map, refl, sym, subst, ap, codes}
 use lib.Signed.{mag}
-use Rattle.rif_terms.specs.declared.tree.Level.{Level}
-use Rattle.rif_terms.specs.declared.rule.Rule.{Rule}
+use Rattle.rif_tree.specs.declared.tree.Level.{Level}
+use Rattle.rif_tree.specs.declared.rule.Rule.{Rule}
 use Rattle.rif_lex.specs.Spelling.{Gap, joined, space, line_feed, Spelled, AreSeparate}
 use Rattle.rif_lex.proofs.ConstantLemmas.{constants_are_tokens}
 use Rattle.prd_reader.specs.Canonical.{word, opening, closing, open_square, close_square, arrow, gap_before, listed}

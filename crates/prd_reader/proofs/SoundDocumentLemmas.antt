@@ -2,8 +2,8 @@
 use Rattle.std.proofs.Common.{◌≡◌, ◌≤ℤ◌, ℤ, pos, neg_ℤ, int_le, true, false, List, [], ◌∷◌, ◌++◌, refl, arith}
 use Rattle.std.proofs.lemmas.Bool.{and_from, not_from_true}
 use Rattle.std.proofs.lemmas.Int.{ints}
-use Rattle.rif_terms.specs.declared.limits.TheConstants.{MOST_PRIORITY}
-use Rattle.rif_terms.specs.declared.rule.Rule.{Rule}
+use Rattle.rif_refusals.specs.declared.limits.TheConstants.{MOST_PRIORITY}
+use Rattle.rif_tree.specs.declared.rule.Rule.{Rule}
 use Rattle.prd_reader.specs.declared.leaf.Leaf.{Leaf}
 use Rattle.prd_reader.specs.declared.leaf.Leaf.TheVariants.{Open, Close}
 use Rattle.prd_reader.specs.declared.progress.Bracket.{Bracket}

@@ -2,17 +2,17 @@
 -- Source: RIF-DTB, "List of RIF Built-in Predicates and Functions"; the numbers of arguments are the project's own
 -- (docs/FORMATS.md, "Built-ins").
 use Rattle.std.specs.Prelude.{ℕ, ◌==◌, ◌&&◌, nat_le, Bool, if◌then◌else◌, List, drop, take, length, codes, bytes_eq}
-use Rattle.rif_terms.specs.declared.builtin.Func.{Func}
-use Rattle.rif_terms.specs.declared.builtin.Func.TheVariants.{NumericAdd, NumericSubtract, NumericMultiply}
-use Rattle.rif_terms.specs.declared.builtin.Func.TheVariants.{NumericIntegerDivide, NumericIntegerMod, Not, Concat}
-use Rattle.rif_terms.specs.declared.builtin.Func.TheVariants.{StringLength}
-use Rattle.rif_terms.specs.declared.builtin.Pred.{Pred}
-use Rattle.rif_terms.specs.declared.builtin.Pred.TheVariants.{NumericEqual, NumericNotEqual, NumericLessThan}
-use Rattle.rif_terms.specs.declared.builtin.Pred.TheVariants.{NumericLessThanOrEqual, NumericGreaterThan}
-use Rattle.rif_terms.specs.declared.builtin.Pred.TheVariants.{NumericGreaterThanOrEqual, BooleanEqual}
-use Rattle.rif_terms.specs.declared.builtin.Pred.TheVariants.{BooleanLessThan, BooleanGreaterThan, StartsWith}
-use Rattle.rif_terms.specs.declared.builtin.Pred.TheVariants.{EndsWith, Contains, IsLiteralInteger, IsLiteralString}
-use Rattle.rif_terms.specs.declared.builtin.Pred.TheVariants.{IsLiteralBoolean}
+use Rattle.rif_tree.specs.declared.builtin.Func.{Func}
+use Rattle.rif_tree.specs.declared.builtin.Func.TheVariants.{NumericAdd, NumericSubtract, NumericMultiply}
+use Rattle.rif_tree.specs.declared.builtin.Func.TheVariants.{NumericIntegerDivide, NumericIntegerMod, Not, Concat}
+use Rattle.rif_tree.specs.declared.builtin.Func.TheVariants.{StringLength}
+use Rattle.rif_tree.specs.declared.builtin.Pred.{Pred}
+use Rattle.rif_tree.specs.declared.builtin.Pred.TheVariants.{NumericEqual, NumericNotEqual, NumericLessThan}
+use Rattle.rif_tree.specs.declared.builtin.Pred.TheVariants.{NumericLessThanOrEqual, NumericGreaterThan}
+use Rattle.rif_tree.specs.declared.builtin.Pred.TheVariants.{NumericGreaterThanOrEqual, BooleanEqual}
+use Rattle.rif_tree.specs.declared.builtin.Pred.TheVariants.{BooleanLessThan, BooleanGreaterThan, StartsWith}
+use Rattle.rif_tree.specs.declared.builtin.Pred.TheVariants.{EndsWith, Contains, IsLiteralInteger, IsLiteralString}
+use Rattle.rif_tree.specs.declared.builtin.Pred.TheVariants.{IsLiteralBoolean}
 use Rattle.prd_reader.specs.declared.leaf.Builtin.{Builtin}
 use Rattle.prd_reader.specs.declared.leaf.Builtin.TheVariants.{Func as FuncBuiltin, Pred as PredBuiltin}
 use Rattle.prd_reader.specs.declared.leaf.BuiltinName.{BuiltinName}

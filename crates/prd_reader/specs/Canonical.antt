@@ -6,38 +6,38 @@
 -- Source: the project's own (docs/FORMATS.md, "Canonical text").
 use Rattle.std.specs.Prelude.{ℕ, List, [], ◌∷◌, ◌++◌, Option, Some, None, codes, get_or, map}
 use Rattle.std.specs.Fmt.{signed_decimal}
-use Rattle.rif_terms.specs.declared.builtin.Func.{Func}
-use Rattle.rif_terms.specs.declared.builtin.Func.TheVariants.{NumericAdd, NumericSubtract, NumericMultiply}
-use Rattle.rif_terms.specs.declared.builtin.Func.TheVariants.{NumericIntegerDivide, NumericIntegerMod, Not as NotFunc}
-use Rattle.rif_terms.specs.declared.builtin.Func.TheVariants.{Concat, StringLength}
-use Rattle.rif_terms.specs.declared.builtin.Pred.{Pred}
-use Rattle.rif_terms.specs.declared.builtin.Pred.TheVariants.{NumericEqual, NumericNotEqual, NumericLessThan}
-use Rattle.rif_terms.specs.declared.builtin.Pred.TheVariants.{NumericLessThanOrEqual, NumericGreaterThan}
-use Rattle.rif_terms.specs.declared.builtin.Pred.TheVariants.{NumericGreaterThanOrEqual, BooleanEqual}
-use Rattle.rif_terms.specs.declared.builtin.Pred.TheVariants.{BooleanLessThan, BooleanGreaterThan, StartsWith}
-use Rattle.rif_terms.specs.declared.builtin.Pred.TheVariants.{EndsWith, Contains, IsLiteralInteger, IsLiteralString}
-use Rattle.rif_terms.specs.declared.builtin.Pred.TheVariants.{IsLiteralBoolean}
-use Rattle.rif_terms.specs.declared.constant.Const.{Const}
-use Rattle.rif_terms.specs.declared.constant.Const.TheVariants.{Int as IntConst, Bool as BoolConst, Str as StrConst}
-use Rattle.rif_terms.specs.declared.constant.Const.TheVariants.{Iri as IriConst, Local as LocalConst, Fresh}
-use Rattle.rif_terms.specs.declared.tree.Term.{Term}
-use Rattle.rif_terms.specs.declared.tree.Term.TheOpen.{Term-F, Const as ConstTerm, Var as VarTerm, Call}
-use Rattle.rif_terms.specs.declared.tree.Term.TheFolds.{fold-Term}
-use Rattle.rif_terms.specs.declared.tree.Formula.{Formula}
-use Rattle.rif_terms.specs.declared.tree.Formula.TheOpen.{Formula-F, And, Or, Not, Exists, Equal, Member, Frame, Atom}
-use Rattle.rif_terms.specs.declared.tree.Formula.TheOpen.{Holds}
-use Rattle.rif_terms.specs.declared.tree.Formula.TheFolds.{fold-Formula}
-use Rattle.rif_terms.specs.declared.tree.Level.{Level}
-use Rattle.rif_terms.specs.declared.rule.Target.{Target}
-use Rattle.rif_terms.specs.declared.rule.Target.TheVariants.{Atom as AtomTarget, Frame as FrameTarget}
-use Rattle.rif_terms.specs.declared.rule.Target.TheVariants.{Member as MemberTarget}
-use Rattle.rif_terms.specs.declared.rule.Action.{Action}
-use Rattle.rif_terms.specs.declared.rule.Action.TheVariants.{Assert, Retract, RetractSlot, RetractObject, Modify}
-use Rattle.rif_terms.specs.declared.rule.Decl.{Decl}
-use Rattle.rif_terms.specs.declared.rule.Decl.TheVariants.{Slot, New}
-use Rattle.rif_terms.specs.declared.rule.Rule.{Rule}
-use Rattle.rif_terms.specs.declared.rule.Doc.{Doc}
-use Rattle.rif_terms.specs.Writing.{const_text}
+use Rattle.rif_tree.specs.declared.builtin.Func.{Func}
+use Rattle.rif_tree.specs.declared.builtin.Func.TheVariants.{NumericAdd, NumericSubtract, NumericMultiply}
+use Rattle.rif_tree.specs.declared.builtin.Func.TheVariants.{NumericIntegerDivide, NumericIntegerMod, Not as NotFunc}
+use Rattle.rif_tree.specs.declared.builtin.Func.TheVariants.{Concat, StringLength}
+use Rattle.rif_tree.specs.declared.builtin.Pred.{Pred}
+use Rattle.rif_tree.specs.declared.builtin.Pred.TheVariants.{NumericEqual, NumericNotEqual, NumericLessThan}
+use Rattle.rif_tree.specs.declared.builtin.Pred.TheVariants.{NumericLessThanOrEqual, NumericGreaterThan}
+use Rattle.rif_tree.specs.declared.builtin.Pred.TheVariants.{NumericGreaterThanOrEqual, BooleanEqual}
+use Rattle.rif_tree.specs.declared.builtin.Pred.TheVariants.{BooleanLessThan, BooleanGreaterThan, StartsWith}
+use Rattle.rif_tree.specs.declared.builtin.Pred.TheVariants.{EndsWith, Contains, IsLiteralInteger, IsLiteralString}
+use Rattle.rif_tree.specs.declared.builtin.Pred.TheVariants.{IsLiteralBoolean}
+use Rattle.rif_values.specs.declared.constant.Const.{Const}
+use Rattle.rif_values.specs.declared.constant.Const.TheVariants.{Int as IntConst, Bool as BoolConst, Str as StrConst}
+use Rattle.rif_values.specs.declared.constant.Const.TheVariants.{Iri as IriConst, Local as LocalConst, Fresh}
+use Rattle.rif_tree.specs.declared.tree.Term.{Term}
+use Rattle.rif_tree.specs.declared.tree.Term.TheOpen.{Term-F, Const as ConstTerm, Var as VarTerm, Call}
+use Rattle.rif_tree.specs.declared.tree.Term.TheFolds.{fold-Term}
+use Rattle.rif_tree.specs.declared.tree.Formula.{Formula}
+use Rattle.rif_tree.specs.declared.tree.Formula.TheOpen.{Formula-F, And, Or, Not, Exists, Equal, Member, Frame, Atom}
+use Rattle.rif_tree.specs.declared.tree.Formula.TheOpen.{Holds}
+use Rattle.rif_tree.specs.declared.tree.Formula.TheFolds.{fold-Formula}
+use Rattle.rif_tree.specs.declared.tree.Level.{Level}
+use Rattle.rif_tree.specs.declared.rule.Target.{Target}
+use Rattle.rif_tree.specs.declared.rule.Target.TheVariants.{Atom as AtomTarget, Frame as FrameTarget}
+use Rattle.rif_tree.specs.declared.rule.Target.TheVariants.{Member as MemberTarget}
+use Rattle.rif_tree.specs.declared.rule.Action.{Action}
+use Rattle.rif_tree.specs.declared.rule.Action.TheVariants.{Assert, Retract, RetractSlot, RetractObject, Modify}
+use Rattle.rif_tree.specs.declared.rule.Decl.{Decl}
+use Rattle.rif_tree.specs.declared.rule.Decl.TheVariants.{Slot, New}
+use Rattle.rif_tree.specs.declared.rule.Rule.{Rule}
+use Rattle.rif_tree.specs.declared.rule.Doc.{Doc}
+use Rattle.rif_values.specs.Writing.{const_text}
 use Rattle.rif_lex.specs.declared.token.Kind.{Kind}
 use Rattle.rif_lex.specs.declared.token.Kind.TheVariants.{Word, Curie, Local, Var, Int, Str, Iri, Open, Close}
 use Rattle.rif_lex.specs.declared.token.Kind.TheVariants.{OpenSquare, CloseSquare, Equal as EqualSign, Hash, Arrow}

@@ -1,8 +1,8 @@
 -- The tree of a document's canonical spelling: IRIs in full, no brackets round a formula, one group a rule. No public
 -- clause cites this module.
 use Rattle.std.specs.Prelude.{ℤ, pos, true, false, [], Some}
-use Rattle.rif_terms.specs.declared.constant.Const.{Const}
-use Rattle.rif_terms.specs.declared.constant.Const.TheVariants.{Int, Bool, Str, Iri, Local, Fresh}
+use Rattle.rif_values.specs.declared.constant.Const.{Const}
+use Rattle.rif_values.specs.declared.constant.Const.TheVariants.{Int, Bool, Str, Iri, Local, Fresh}
 use Rattle.prd_reader.specs.Trees.{ConstTree, const_int, const_string, const_iri, const_local, const_true}
 use Rattle.prd_reader.specs.Trees.{const_false, NameTree, name_iri, name_curie, name_local, name_typed_iri}
 use Rattle.prd_reader.specs.Trees.{name_typed_local, func_known, pred_known, TermTree, constant, variable, call}

@@ -4,10 +4,10 @@
 --     OneOutcome                            law: tokens lead to one of these, and to one value of it
 -- Source: the project's own (docs/FORMATS.md, "Grammar" and "Refusals").
 use Rattle.std.specs.Prelude.{◌≡◌, ℕ, zero, suc, List, [], ◌∷◌, length}
-use Rattle.rif_terms.specs.declared.refusal.Refusal.{Refusal}
-use Rattle.rif_terms.specs.declared.fault.Fault.{Fault}
-use Rattle.rif_terms.specs.declared.fault.Fault.TheVariants.{Refused, OutOfMemory}
-use Rattle.rif_terms.specs.declared.rule.Doc.{Doc}
+use Rattle.rif_refusals.specs.declared.refusal.Refusal.{Refusal}
+use Rattle.rif_refusals.specs.declared.fault.Fault.{Fault}
+use Rattle.rif_refusals.specs.declared.fault.Fault.TheVariants.{Refused, OutOfMemory}
+use Rattle.rif_tree.specs.declared.rule.Doc.{Doc}
 use Rattle.rif_lex.specs.declared.token.Token.{Token}
 use Rattle.rif_lex.specs.Places.{first_place, place_past}
 use Rattle.prd_reader.specs.declared.cause.Cause.{Cause}

@@ -7,9 +7,9 @@
 -- Source: the project's own (docs/FORMATS.md, "Jobs").
 use Rattle.std.specs.Prelude.{◌≡◌, ℕ, pos, ◌||◌, Bool, true, false, List, [], ◌∷◌, ◌++◌, Some}
 use Rattle.std.specs.List.{list_any}
-use Rattle.rif_terms.specs.declared.constant.Const.{Const}
-use Rattle.rif_terms.specs.declared.fact.Fact.{Fact}
-use Rattle.rif_terms.specs.declared.fact.Fact.TheVariants.{Atom, Frame, Member}
+use Rattle.rif_values.specs.declared.constant.Const.{Const}
+use Rattle.rif_values.specs.declared.fact.Fact.{Fact}
+use Rattle.rif_values.specs.declared.fact.Fact.TheVariants.{Atom, Frame, Member}
 use Rattle.prd_reader.specs.declared.leaf.Literal.TheVariants.{OfNoType}
 use Rattle.prd_reader.specs.declared.leaf.Leaf.{Leaf}
 use Rattle.prd_reader.specs.declared.leaf.Leaf.TheVariants.{Int, Typed}

@@ -1,25 +1,25 @@
 -- What holds of every document that is read: it keeps the limits, and each variable is a place in its rule's names.
 -- Source: the project's own (docs/FORMATS.md, "Limits").
 use Rattle.std.specs.Prelude.{max, suc, ◌≡◌, ◌≤◌, ◌≤ℤ◌, ℕ, ◌+◌, neg_ℤ, List, [], ◌∷◌, length, map, Option, Some, None}
-use Rattle.rif_terms.specs.declared.limits.TheConstants.{MOST_RULES, MOST_VARIABLES, MOST_PATTERNS, MOST_ACTIONS}
-use Rattle.rif_terms.specs.declared.limits.TheConstants.{MOST_PRIORITY}
-use Rattle.rif_terms.specs.declared.tree.Term.{Term}
-use Rattle.rif_terms.specs.declared.tree.Term.TheOpen.{Term-F, Const as ConstTerm, Var as VarTerm, Call as CallTerm}
-use Rattle.rif_terms.specs.declared.tree.Term.TheFolds.{fold-Term}
-use Rattle.rif_terms.specs.declared.tree.Formula.{Formula}
-use Rattle.rif_terms.specs.declared.tree.Formula.TheOpen.{Formula-F, And, Or, Not, Exists, Equal, Member, Frame, Atom}
-use Rattle.rif_terms.specs.declared.tree.Formula.TheOpen.{Holds}
-use Rattle.rif_terms.specs.declared.tree.Formula.TheFolds.{fold-Formula}
-use Rattle.rif_terms.specs.declared.tree.Level.{Level}
-use Rattle.rif_terms.specs.declared.rule.Target.{Target}
-use Rattle.rif_terms.specs.declared.rule.Target.TheVariants.{Atom as AtomTarget, Frame as FrameTarget}
-use Rattle.rif_terms.specs.declared.rule.Target.TheVariants.{Member as MemberTarget}
-use Rattle.rif_terms.specs.declared.rule.Action.{Action}
-use Rattle.rif_terms.specs.declared.rule.Action.TheVariants.{Assert, Retract, RetractSlot, RetractObject, Modify}
-use Rattle.rif_terms.specs.declared.rule.Decl.{Decl}
-use Rattle.rif_terms.specs.declared.rule.Decl.TheVariants.{Slot, New}
-use Rattle.rif_terms.specs.declared.rule.Rule.{Rule}
-use Rattle.rif_terms.specs.declared.rule.Doc.{Doc}
+use Rattle.rif_refusals.specs.declared.limits.TheConstants.{MOST_RULES, MOST_VARIABLES, MOST_PATTERNS, MOST_ACTIONS}
+use Rattle.rif_refusals.specs.declared.limits.TheConstants.{MOST_PRIORITY}
+use Rattle.rif_tree.specs.declared.tree.Term.{Term}
+use Rattle.rif_tree.specs.declared.tree.Term.TheOpen.{Term-F, Const as ConstTerm, Var as VarTerm, Call as CallTerm}
+use Rattle.rif_tree.specs.declared.tree.Term.TheFolds.{fold-Term}
+use Rattle.rif_tree.specs.declared.tree.Formula.{Formula}
+use Rattle.rif_tree.specs.declared.tree.Formula.TheOpen.{Formula-F, And, Or, Not, Exists, Equal, Member, Frame, Atom}
+use Rattle.rif_tree.specs.declared.tree.Formula.TheOpen.{Holds}
+use Rattle.rif_tree.specs.declared.tree.Formula.TheFolds.{fold-Formula}
+use Rattle.rif_tree.specs.declared.tree.Level.{Level}
+use Rattle.rif_tree.specs.declared.rule.Target.{Target}
+use Rattle.rif_tree.specs.declared.rule.Target.TheVariants.{Atom as AtomTarget, Frame as FrameTarget}
+use Rattle.rif_tree.specs.declared.rule.Target.TheVariants.{Member as MemberTarget}
+use Rattle.rif_tree.specs.declared.rule.Action.{Action}
+use Rattle.rif_tree.specs.declared.rule.Action.TheVariants.{Assert, Retract, RetractSlot, RetractObject, Modify}
+use Rattle.rif_tree.specs.declared.rule.Decl.{Decl}
+use Rattle.rif_tree.specs.declared.rule.Decl.TheVariants.{Slot, New}
+use Rattle.rif_tree.specs.declared.rule.Rule.{Rule}
+use Rattle.rif_tree.specs.declared.rule.Doc.{Doc}
 use Rattle.prd_reader.specs.Progress.{at_start, names_read}
 use Rattle.prd_reader.specs.Refusals.{IsClear}
 use Rattle.prd_reader.specs.Trees.{DocumentTree, spell_document}

@@ -8,7 +8,7 @@ use Rattle.std.specs.Prelude.{ℕ, ◌==◌, ◌&&◌, ◌||◌, nat_le, ℤ, in
 use Rattle.std.specs.Prelude.{◌++◌, length, codes, bytes_eq, Option, Some, None}
 use Rattle.std.specs.List.{list_all}
 use Rattle.std.specs.Str.Parse.{signed_digits_value, without_leading_sign}
-use Rattle.rif_terms.specs.declared.integer.TheConstants.{LEAST_INTEGER, GREATEST_INTEGER}
+use Rattle.rif_values.specs.declared.integer.TheConstants.{LEAST_INTEGER, GREATEST_INTEGER}
 use Rattle.rif_lex.specs.Characters.{is_between, is_inside_iri, is_name, class_at}
 use Rattle.prd_reader.specs.declared.leaf.Literal.{Literal}
 use Rattle.prd_reader.specs.declared.leaf.Literal.TheVariants.{Integer, Boolean, String, Iri, Local, OfNoType}

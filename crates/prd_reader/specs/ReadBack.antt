@@ -4,8 +4,8 @@
 --     CanonicalIsReadBack        law
 -- Source: the project's own (docs/FORMATS.md, "Canonical text", "Limits" and "Refusals").
 use Rattle.std.specs.Prelude.{◌≡◌, ◌⊎◌, ℕ, List, [], Ok, Err}
-use Rattle.rif_terms.specs.declared.refusal.Refusal.TheVariants.{InputTooLong, TooDeep}
-use Rattle.rif_terms.specs.declared.rule.Doc.{Doc}
+use Rattle.rif_refusals.specs.declared.refusal.Refusal.TheVariants.{InputTooLong, TooDeep}
+use Rattle.rif_tree.specs.declared.rule.Doc.{Doc}
 use Rattle.rif_lex.specs.declared.token.Token.{Token}
 use Rattle.rif_lex.specs.Lexing.{lexed}
 use Rattle.prd_reader.specs.Canonical.{canonical_text}

@@ -7,20 +7,20 @@
 use Rattle.std.specs.Prelude.{◌≡◌, ◌⊎◌, ◌≤◌, ◌<◌, ℕ, ◌+◌, ◌&&◌, not, nat_le, ℤ, neg_ℤ, int_le, Bool, true, false}
 use Rattle.std.specs.Prelude.{if◌then◌else◌, List, ◌∷◌, ◌++◌, length, take, get_or, Option, Some, None, codes}
 use Rattle.std.specs.Prelude.{bytes_eq}
-use Rattle.rif_terms.specs.declared.limits.TheConstants.{MOST_OPEN_BRACKETS, MOST_RULES, MOST_VARIABLES}
-use Rattle.rif_terms.specs.declared.limits.TheConstants.{MOST_PATTERNS, MOST_ACTIONS, MOST_PRIORITY}
-use Rattle.rif_terms.specs.declared.refusal.Counted.TheVariants.{Rules, Variables, Patterns, Actions}
-use Rattle.rif_terms.specs.declared.refusal.Refusal.{Refusal}
-use Rattle.rif_terms.specs.declared.refusal.Refusal.TheVariants.{Expected as ExpectedRefusal}
-use Rattle.rif_terms.specs.declared.refusal.Refusal.TheVariants.{TooDeep as TooDeepRefusal}
-use Rattle.rif_terms.specs.declared.refusal.Refusal.TheVariants.{IntRange as IntRangeRefusal}
-use Rattle.rif_terms.specs.declared.refusal.Refusal.TheVariants.{UnknownPrefix as UnknownPrefixRefusal}
-use Rattle.rif_terms.specs.declared.refusal.Refusal.TheVariants.{LeftOut as LeftOutRefusal}
-use Rattle.rif_terms.specs.declared.refusal.Refusal.TheVariants.{UnknownBuiltin as UnknownBuiltinRefusal}
-use Rattle.rif_terms.specs.declared.refusal.Refusal.TheVariants.{Arity as ArityRefusal}
-use Rattle.rif_terms.specs.declared.refusal.Refusal.TheVariants.{BadStrategy as BadStrategyRefusal}
-use Rattle.rif_terms.specs.declared.refusal.Refusal.TheVariants.{PriorityRange as PriorityRangeRefusal}
-use Rattle.rif_terms.specs.declared.refusal.Refusal.TheVariants.{TooMany as TooManyRefusal}
+use Rattle.rif_refusals.specs.declared.limits.TheConstants.{MOST_OPEN_BRACKETS, MOST_RULES, MOST_VARIABLES}
+use Rattle.rif_refusals.specs.declared.limits.TheConstants.{MOST_PATTERNS, MOST_ACTIONS, MOST_PRIORITY}
+use Rattle.rif_refusals.specs.declared.refusal.Counted.TheVariants.{Rules, Variables, Patterns, Actions}
+use Rattle.rif_refusals.specs.declared.refusal.Refusal.{Refusal}
+use Rattle.rif_refusals.specs.declared.refusal.Refusal.TheVariants.{Expected as ExpectedRefusal}
+use Rattle.rif_refusals.specs.declared.refusal.Refusal.TheVariants.{TooDeep as TooDeepRefusal}
+use Rattle.rif_refusals.specs.declared.refusal.Refusal.TheVariants.{IntRange as IntRangeRefusal}
+use Rattle.rif_refusals.specs.declared.refusal.Refusal.TheVariants.{UnknownPrefix as UnknownPrefixRefusal}
+use Rattle.rif_refusals.specs.declared.refusal.Refusal.TheVariants.{LeftOut as LeftOutRefusal}
+use Rattle.rif_refusals.specs.declared.refusal.Refusal.TheVariants.{UnknownBuiltin as UnknownBuiltinRefusal}
+use Rattle.rif_refusals.specs.declared.refusal.Refusal.TheVariants.{Arity as ArityRefusal}
+use Rattle.rif_refusals.specs.declared.refusal.Refusal.TheVariants.{BadStrategy as BadStrategyRefusal}
+use Rattle.rif_refusals.specs.declared.refusal.Refusal.TheVariants.{PriorityRange as PriorityRangeRefusal}
+use Rattle.rif_refusals.specs.declared.refusal.Refusal.TheVariants.{TooMany as TooManyRefusal}
 use Rattle.prd_reader.specs.declared.cause.Cause.{Cause}
 use Rattle.prd_reader.specs.declared.cause.Cause.TheVariants.{Expected, TooDeep, IntRange, UnknownPrefix, LeftOut}
 use Rattle.prd_reader.specs.declared.cause.Cause.TheVariants.{UnknownBuiltin, Arity, BadStrategy, PriorityRange}

@@ -3,12 +3,12 @@
 -- be of a document, so that one leaf decides. No public clause cites this module.
 use Rattle.std.specs.Prelude.{ℕ, ℤ, pos, Bool, true, false, not, ◌&&◌, if◌then◌else◌, List, [], ◌∷◌, Option, Some}
 use Rattle.std.specs.Prelude.{None, drop}
-use Rattle.rif_terms.specs.declared.builtin.Func.{Func}
-use Rattle.rif_terms.specs.declared.builtin.Func.TheVariants.{NumericAdd}
-use Rattle.rif_terms.specs.declared.builtin.Pred.TheVariants.{NumericEqual}
-use Rattle.rif_terms.specs.declared.constant.Const.{Const}
-use Rattle.rif_terms.specs.declared.constant.Const.TheVariants.{Int as IntConst, Bool as BoolConst, Str as StrConst}
-use Rattle.rif_terms.specs.declared.constant.Const.TheVariants.{Iri as IriConst, Local as LocalConst}
+use Rattle.rif_tree.specs.declared.builtin.Func.{Func}
+use Rattle.rif_tree.specs.declared.builtin.Func.TheVariants.{NumericAdd}
+use Rattle.rif_tree.specs.declared.builtin.Pred.TheVariants.{NumericEqual}
+use Rattle.rif_values.specs.declared.constant.Const.{Const}
+use Rattle.rif_values.specs.declared.constant.Const.TheVariants.{Int as IntConst, Bool as BoolConst, Str as StrConst}
+use Rattle.rif_values.specs.declared.constant.Const.TheVariants.{Iri as IriConst, Local as LocalConst}
 use Rattle.prd_reader.specs.declared.leaf.Keyword.TheVariants.{Prefix, Group, Forall, Such, If, Do, New, Retract}
 use Rattle.prd_reader.specs.declared.leaf.Keyword.TheVariants.{Modify, And, Or, Not, INeg, Exists, External, True}
 use Rattle.prd_reader.specs.declared.leaf.Builtin.TheVariants.{Func as FuncBuiltin, Pred as PredBuiltin}

@@ -2,8 +2,8 @@
 -- list is spelled with the bracket that ends it.
 -- Source: the project's own (docs/FORMATS.md, "Grammar").
 use Rattle.std.specs.Prelude.{ℤ, ℕ, Bool, List, [], ◌∷◌, ◌++◌, Option}
-use Rattle.rif_terms.specs.declared.builtin.Func.{Func}
-use Rattle.rif_terms.specs.declared.builtin.Pred.{Pred}
+use Rattle.rif_tree.specs.declared.builtin.Func.{Func}
+use Rattle.rif_tree.specs.declared.builtin.Pred.{Pred}
 use Rattle.prd_reader.specs.declared.leaf.Keyword.TheVariants.{Document, Prefix, Group, Forall, Such, That, If, Then}
 use Rattle.prd_reader.specs.declared.leaf.Keyword.TheVariants.{Do, New, Assert, Retract, Modify, And, Or, Not, INeg}
 use Rattle.prd_reader.specs.declared.leaf.Keyword.TheVariants.{Exists, External, True, False}

@@ -4,26 +4,26 @@
 use Rattle.std.specs.Prelude.{ℕ, ℤ, pos, Bool, true, false, if◌then◌else◌, List, [], ◌∷◌, ◌++◌, Option, Some, None}
 use Rattle.std.specs.Prelude.{bytes_eq, suc}
 use Rattle.std.specs.List.{list_any}
-use Rattle.rif_terms.specs.declared.builtin.Func.{Func}
-use Rattle.rif_terms.specs.declared.builtin.Func.TheVariants.{NumericAdd}
-use Rattle.rif_terms.specs.declared.builtin.Pred.{Pred}
-use Rattle.rif_terms.specs.declared.builtin.Pred.TheVariants.{NumericEqual}
-use Rattle.rif_terms.specs.declared.constant.Const.{Const}
-use Rattle.rif_terms.specs.declared.constant.Const.TheVariants.{Int, Bool as BoolConst, Str, Iri, Local}
-use Rattle.rif_terms.specs.declared.tree.Term.{Term}
-use Rattle.rif_terms.specs.declared.tree.Term.TheVariants.{Const as ConstTerm, Var as VarTerm, Call}
-use Rattle.rif_terms.specs.declared.tree.Formula.{Formula}
-use Rattle.rif_terms.specs.declared.tree.Formula.TheVariants.{And, Or, Not, Exists, Equal, Member, Frame, Atom, Holds}
-use Rattle.rif_terms.specs.declared.tree.Level.{Level}
-use Rattle.rif_terms.specs.declared.rule.Target.{Target}
-use Rattle.rif_terms.specs.declared.rule.Target.TheVariants.{Atom as AtomTarget, Frame as FrameTarget}
-use Rattle.rif_terms.specs.declared.rule.Target.TheVariants.{Member as MemberTarget}
-use Rattle.rif_terms.specs.declared.rule.Action.{Action}
-use Rattle.rif_terms.specs.declared.rule.Action.TheVariants.{Assert, Retract, RetractSlot, RetractObject, Modify}
-use Rattle.rif_terms.specs.declared.rule.Decl.{Decl}
-use Rattle.rif_terms.specs.declared.rule.Decl.TheVariants.{Slot, New}
-use Rattle.rif_terms.specs.declared.rule.Rule.{Rule}
-use Rattle.rif_terms.specs.declared.rule.Doc.{Doc}
+use Rattle.rif_tree.specs.declared.builtin.Func.{Func}
+use Rattle.rif_tree.specs.declared.builtin.Func.TheVariants.{NumericAdd}
+use Rattle.rif_tree.specs.declared.builtin.Pred.{Pred}
+use Rattle.rif_tree.specs.declared.builtin.Pred.TheVariants.{NumericEqual}
+use Rattle.rif_values.specs.declared.constant.Const.{Const}
+use Rattle.rif_values.specs.declared.constant.Const.TheVariants.{Int, Bool as BoolConst, Str, Iri, Local}
+use Rattle.rif_tree.specs.declared.tree.Term.{Term}
+use Rattle.rif_tree.specs.declared.tree.Term.TheVariants.{Const as ConstTerm, Var as VarTerm, Call}
+use Rattle.rif_tree.specs.declared.tree.Formula.{Formula}
+use Rattle.rif_tree.specs.declared.tree.Formula.TheVariants.{And, Or, Not, Exists, Equal, Member, Frame, Atom, Holds}
+use Rattle.rif_tree.specs.declared.tree.Level.{Level}
+use Rattle.rif_tree.specs.declared.rule.Target.{Target}
+use Rattle.rif_tree.specs.declared.rule.Target.TheVariants.{Atom as AtomTarget, Frame as FrameTarget}
+use Rattle.rif_tree.specs.declared.rule.Target.TheVariants.{Member as MemberTarget}
+use Rattle.rif_tree.specs.declared.rule.Action.{Action}
+use Rattle.rif_tree.specs.declared.rule.Action.TheVariants.{Assert, Retract, RetractSlot, RetractObject, Modify}
+use Rattle.rif_tree.specs.declared.rule.Decl.{Decl}
+use Rattle.rif_tree.specs.declared.rule.Decl.TheVariants.{Slot, New}
+use Rattle.rif_tree.specs.declared.rule.Rule.{Rule}
+use Rattle.rif_tree.specs.declared.rule.Doc.{Doc}
 use Rattle.prd_reader.specs.declared.leaf.Literal.{Literal}
 use Rattle.prd_reader.specs.declared.leaf.Literal.TheVariants.{Integer, Boolean, String, Iri as IriLiteral}
 use Rattle.prd_reader.specs.declared.leaf.Literal.TheVariants.{Local as LocalLiteral, OfNoType}

@@ -4,7 +4,7 @@ ghost use Rattle.prd_reader.specs.Builtins.{builtin_named, func_named, func_take
 ghost use Rattle.prd_reader.specs.Builtins.{pred_takes};
 
 use crate::leaf::{Builtin, BuiltinName};
-use rif_terms::{Func, Pred};
+use rif_tree::{Func, Pred};
 
 /// The built-in that an IRI names.
 ///

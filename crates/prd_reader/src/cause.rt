@@ -1,4 +1,4 @@
-use rif_terms::{Counted, Refusal};
+use rif_refusals::{Counted, Refusal};
 
 /// Why a document is refused at a place.
 ///

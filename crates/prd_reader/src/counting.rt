@@ -6,7 +6,7 @@ ghost use Rattle.prd_reader.specs.Values.{has_name, names_with};
 
 use crate::leaf::Leaf;
 use crate::signs::{begins_rule, is_action, is_close, is_do, is_sign_of_pattern};
-use rif_terms::{OutOfMemory, Text};
+use rif_values::{OutOfMemory, Text};
 use sqlite_items::Items;
 use std::alloc::Global;
 

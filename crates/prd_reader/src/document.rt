@@ -9,7 +9,8 @@ use crate::prefixes::Prefixes;
 use crate::recognizing::{Outcome, recognize};
 use crate::refusing::refusal_at;
 use rif_lex::{Token, Tokens, end_of};
-use rif_terms::{Doc, Fault};
+use rif_refusals::Fault;
+use rif_tree::Doc;
 use std::alloc::Global;
 
 /// The document that the tokens of these bytes stand for, or the refusal that decides: 4 to 13, each

@@ -12,7 +12,7 @@ use crate::prefixes::Prefixes;
 use crate::text_pool::TextPool;
 use crate::token_leaf::leaf_at;
 use rif_lex::Token;
-use rif_terms::{OutOfMemory, Text};
+use rif_values::{OutOfMemory, Text};
 use std::alloc::Global;
 
 /// The leaves of a document's tokens, and the prefixes that are declared in it.

@@ -1,7 +1,7 @@
 //! Parts of a text, as they stand in a line for people.
 ghost use Rattle.std.specs.Prelude.{◌≤◌, length};
 
-use rif_terms::OutOfMemory;
+use rif_values::OutOfMemory;
 
 // How many characters of a text are shown.
 const MOST_CHARACTERS: u64 = 40;

@@ -24,7 +24,8 @@ use crate::explaining::unreadable::push_unreadable;
 use crate::leaf::Leaf;
 use crate::token_text::text_of;
 use rif_lex::Token;
-use rif_terms::{OutOfMemory, Refusal};
+use rif_refusals::Refusal;
+use rif_values::OutOfMemory;
 use std::alloc::Global;
 
 /// A refusal of a document in words, for people: its own text, the token at its place, and what could stand

@@ -26,7 +26,7 @@ use crate::following::rules::{advance_forall, advance_rule, advance_such, advanc
 use crate::following::terms::{advance_pairs, advance_term, advance_terms, is_func_name};
 use crate::leaf::{Keyword, Leaf};
 use crate::want::Want;
-use rif_terms::OutOfMemory;
+use rif_values::OutOfMemory;
 use std::collections::VecDeque;
 
 /// Whether nothing has still to come.

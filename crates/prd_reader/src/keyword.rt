@@ -6,7 +6,7 @@ ghost use Rattle.prd_reader.specs.LeafWords.{inner_word_leaf, is_left_out, other
 
 use crate::leaf::{Keyword, Leaf};
 use crate::text_pool::TextPool;
-use rif_terms::OutOfMemory;
+use rif_values::OutOfMemory;
 
 /// The leaf of a word.
 ///

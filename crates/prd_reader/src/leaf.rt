@@ -1,4 +1,5 @@
-use rif_terms::{Func, Integer, Pred, Text};
+use rif_tree::{Func, Pred};
+use rif_values::{Integer, Text};
 
 /// A word that the grammar spells.
 ///

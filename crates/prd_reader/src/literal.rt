@@ -8,7 +8,7 @@ ghost use Rattle.prd_reader.specs.Literals.{is_iri_text, is_name_text, is_type, 
 ghost use Rattle.prd_reader.specs.LeafWords.{integer_literal};
 
 use crate::leaf::Literal;
-use rif_terms::{Integer, OutOfMemory, Text};
+use rif_values::{Integer, OutOfMemory, Text};
 
 /// The integer of digits with a sign, and none where it is out of range.
 ///

@@ -8,7 +8,7 @@ ghost use Rattle.prd_reader.specs.Prefixes.{meaning_beforehand};
 
 use indexmap::map::Iter;
 use indexmap::{Equivalent, IndexMap};
-use rif_terms::{OutOfMemory, Text};
+use rif_values::{OutOfMemory, Text};
 use std::alloc::Global;
 use std::marker::Model;
 

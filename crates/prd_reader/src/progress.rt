@@ -6,7 +6,7 @@ ghost use Rattle.prd_reader.specs.Reached.{HasRoom, name_with};
 use crate::counting::{RuleReading, go_on_in_rule};
 use crate::leaf::{Builtin, BuiltinName, Keyword, Leaf, Literal};
 use crate::signs::{begins_rule, is_term, takes_term};
-use rif_terms::{OutOfMemory, Text};
+use rif_values::{OutOfMemory, Text};
 use sqlite_items::Items;
 use std::alloc::Global;
 use std::collections::VecDeque;

@@ -10,7 +10,7 @@ use crate::leaf::Leaf;
 use crate::progress::Reading;
 use crate::refusing::{cause_at, unexpected};
 use crate::want::Want;
-use rif_terms::{OutOfMemory, Text};
+use rif_values::{OutOfMemory, Text};
 use sqlite_items::Items;
 use std::alloc::Global;
 use std::collections::VecDeque;

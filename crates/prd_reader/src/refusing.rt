@@ -13,10 +13,11 @@ use crate::counting::{RuleReading, has_name};
 use crate::leaf::{BuiltinName, Leaf, Literal};
 use crate::progress::{Bracket, Reading, depth_of};
 use crate::signs::is_action;
-use rif_terms::limits::{
+use rif_refusals::limits::{
     MOST_ACTIONS, MOST_OPEN_BRACKETS, MOST_PATTERNS, MOST_PRIORITY, MOST_RULES, MOST_VARIABLES,
 };
-use rif_terms::{Counted, Integer, Refusal};
+use rif_refusals::{Counted, Refusal};
+use rif_values::Integer;
 use std::collections::VecDeque;
 
 // The type of a typed literal is none of the five.

@@ -8,7 +8,8 @@ mod written;
 
 use crate::read_doc;
 use rif_lex::tokens;
-use rif_terms::{Doc, Fault};
+use rif_refusals::Fault;
+use rif_tree::Doc;
 use std::alloc::Global;
 
 // The document that a text is.

@@ -2,7 +2,7 @@
 ghost use Rattle.std.specs.Prelude.{◌≡◌, ◌++◌, IfOk, IsUtf8, OnOk};
 
 use crate::literal::{has_escape, unescape};
-use rif_terms::{OutOfMemory, Text};
+use rif_values::{OutOfMemory, Text};
 use std::alloc::Global;
 
 // How many texts are kept, each in the place that its bytes lead to.

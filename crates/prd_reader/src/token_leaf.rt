@@ -16,7 +16,7 @@ use crate::prefixes::Prefixes;
 use crate::text_pool::TextPool;
 use crate::token_text::{before_colon, behind_colon, behind_sign, inner, text_of};
 use rif_lex::{Kind, Token};
-use rif_terms::{OutOfMemory, Text};
+use rif_values::{OutOfMemory, Text};
 
 /// The leaf of a token of the bytes, where these prefixes are declared, this stands straight before it, and these
 /// tokens stand behind it.

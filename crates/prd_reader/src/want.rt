@@ -1,4 +1,4 @@
-use rif_terms::Text;
+use rif_values::Text;
 
 /// What has still to come. A list and the bracket that ends it are one want, so that each begins with a
 /// leaf, and that leaf decides.

@@ -3,8 +3,8 @@ use Rattle.std.proofs.Common.{◌≡◌, ◌∙◌, Bool, true, false, cond, not
 use Rattle.std.proofs.Common.{option_map, refl, ap}
 use Rattle.std.specs.List.{list_any}
 use Rattle.std.specs.declared.option.Option.{Option}
-use Rattle.rif_terms.specs.declared.instance.Instance.{Instance}
-use Rattle.rif_terms.specs.declared.rule.Doc.{Doc}
+use Rattle.rif_values.specs.declared.instance.Instance.{Instance}
+use Rattle.rif_tree.specs.declared.rule.Doc.{Doc}
 use Rattle.prd_relation.specs.declared.candidate.Candidate.{Candidate}
 use Rattle.prd_relation.specs.declared.moment.Moment.{Moment}
 use Rattle.prd_relation.specs.Choice.{best_by, is_lower, is_older, highest_instances, unrefracted_instances}

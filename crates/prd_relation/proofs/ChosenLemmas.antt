@@ -8,11 +8,11 @@ use Rattle.std.specs.List.{AllByRecursion, list_any}
 use Rattle.std.specs.declared.cmp.Ordering.{Ordering}
 use Rattle.std.specs.declared.cmp.Ordering.TheVariants.{Less, Equal, Greater}
 use Rattle.std.specs.Ordering.{eq_by_cmp, int_cmp, is_lt}
-use Rattle.rif_terms.proofs.OrderLemmas.{total_instances, exact_instances}
-use Rattle.rif_terms.proofs.SetsMembers.{has_filter, equal_is, equal_itself}
-use Rattle.rif_terms.specs.declared.instance.Instance.{Instance}
-use Rattle.rif_terms.specs.InstanceOrder.{instance_cmp}
-use Rattle.rif_terms.specs.Sets.{has}
+use Rattle.rif_values.proofs.OrderLemmas.{total_instances, exact_instances}
+use Rattle.rif_sets.proofs.SetsMembers.{has_filter, equal_is, equal_itself}
+use Rattle.rif_values.specs.declared.instance.Instance.{Instance}
+use Rattle.rif_values.specs.InstanceOrder.{instance_cmp}
+use Rattle.rif_values.specs.Sets.{has}
 use Rattle.prd_relation.specs.Choice.{best_by, priority_of, is_lower, is_older, highest_instances, youngest_instances}
 use Rattle.prd_relation.specs.Choice.{unrefracted_instances, allowed_instances}
 use Rattle.prd_relation.specs.History.{newest_conflict_set, age_of, is_refracted}

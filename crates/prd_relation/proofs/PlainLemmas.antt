@@ -5,11 +5,11 @@ use Rattle.std.proofs.Common.{subst, add-one, arith}
 use Rattle.std.specs.Ordering.{eq_by_cmp}
 use Rattle.std.specs.declared.option.Option.{Option}
 use Rattle.std.proofs.lemmas.List.{reverse-append}
-use Rattle.rif_terms.proofs.OrderLemmas.{total_instances, exact_instances}
-use Rattle.rif_terms.proofs.SetsMembers.{equal_is, equal_itself}
-use Rattle.rif_terms.specs.declared.instance.Instance.{Instance}
-use Rattle.rif_terms.specs.InstanceOrder.{instance_cmp}
-use Rattle.rif_terms.specs.Sets.{has}
+use Rattle.rif_values.proofs.OrderLemmas.{total_instances, exact_instances}
+use Rattle.rif_sets.proofs.SetsMembers.{equal_is, equal_itself}
+use Rattle.rif_values.specs.declared.instance.Instance.{Instance}
+use Rattle.rif_values.specs.InstanceOrder.{instance_cmp}
+use Rattle.rif_values.specs.Sets.{has}
 use Rattle.prd_relation.specs.declared.mark.Mark.{Mark}
 use Rattle.prd_relation.specs.declared.moment.Moment.{Moment}
 use Rattle.prd_relation.specs.History.{newest_conflict_set, has_instance, is_pick, age_of, is_refracted}

@@ -3,7 +3,7 @@ use Rattle.std.proofs.Common.{◌≡◌, ◌≢◌, ◌∙◌, Bool, true, false
 use Rattle.std.proofs.Common.{arith}
 use Rattle.std.specs.Option.{option_map_or}
 use Rattle.std.specs.declared.option.Option.{Option}
-use Rattle.rif_terms.specs.declared.rule.Doc.{Doc}
+use Rattle.rif_tree.specs.declared.rule.Doc.{Doc}
 use Rattle.session_states.specs.declared.item.Entry.{Entry}
 use Rattle.session_states.specs.declared.turn.Act.{Act}
 use Rattle.session_states.specs.declared.turn.Act.TheVariants.{Idle, Halted, Disposed, Fired, StoppedQuiet}

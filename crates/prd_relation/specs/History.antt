@@ -14,12 +14,12 @@ use Rattle.std.specs.Prelude.{None, IfSome, if◌then◌else◌}
 use Rattle.std.specs.List.{AllByRecursion}
 use Rattle.std.specs.Ordering.{eq_by_cmp}
 use Rattle.std.specs.declared.option.Option.{Option}
-use Rattle.rif_terms.specs.declared.fact.Fact.{Fact}
-use Rattle.rif_terms.specs.declared.instance.Instance.{Instance}
-use Rattle.rif_terms.specs.declared.rule.Doc.{Doc}
-use Rattle.rif_terms.specs.InstanceOrder.{instance_cmp}
-use Rattle.rif_terms.specs.Facts.{IsFacts}
-use Rattle.rif_terms.specs.Sets.{has}
+use Rattle.rif_values.specs.declared.fact.Fact.{Fact}
+use Rattle.rif_values.specs.declared.instance.Instance.{Instance}
+use Rattle.rif_tree.specs.declared.rule.Doc.{Doc}
+use Rattle.rif_values.specs.InstanceOrder.{instance_cmp}
+use Rattle.rif_values.specs.Facts.{IsFacts}
+use Rattle.rif_values.specs.Sets.{has}
 use Rattle.prd_relation.specs.declared.moment.Moment.{Moment}
 use Rattle.rif_match.specs.ConflictSet.{conflict_set}
 

@@ -6,10 +6,10 @@
 use Rattle.std.specs.Prelude.{suc, Bool, ◌&&◌, ◌||◌, List, nat_lt}
 use Rattle.std.specs.Ordering.{int_cmp, is_lt}
 use Rattle.std.specs.declared.option.Option.{Option}
-use Rattle.rif_terms.specs.declared.instance.Instance.{Instance}
-use Rattle.rif_terms.specs.declared.rule.Doc.{Doc}
-use Rattle.rif_terms.specs.InstanceOrder.{instance_cmp}
-use Rattle.rif_terms.specs.Sets.{has}
+use Rattle.rif_values.specs.declared.instance.Instance.{Instance}
+use Rattle.rif_tree.specs.declared.rule.Doc.{Doc}
+use Rattle.rif_values.specs.InstanceOrder.{instance_cmp}
+use Rattle.rif_values.specs.Sets.{has}
 use Rattle.prd_relation.specs.declared.candidate.Candidate.{Candidate}
 use Rattle.prd_relation.specs.declared.mark.Mark.{Mark}
 use Rattle.prd_relation.specs.declared.moment.Moment.{Moment}

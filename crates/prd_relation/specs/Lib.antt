@@ -1,4 +1,3 @@
-pub mod Blocks
 pub mod Choice
 pub mod Endings
 pub mod History
@@ -8,4 +7,3 @@ pub mod Replay
 pub mod Runs
 pub mod Session
 pub mod Turns
-pub mod Uses

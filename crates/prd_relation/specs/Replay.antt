@@ -3,7 +3,7 @@
 --         of the given batches these are left, the last turn fired or not, and the turns and the session are those of
 --         some batches so far
 use Rattle.std.specs.Prelude.{◌≡◌, Bool, List, [], ◌∷◌, ◌++◌}
-use Rattle.rif_terms.specs.declared.rule.Doc.{Doc}
+use Rattle.rif_tree.specs.declared.rule.Doc.{Doc}
 use Rattle.session_states.specs.declared.item.Entry.{Entry}
 use Rattle.session_states.specs.declared.turn.Turn.{Turn}
 use Rattle.prd_relation.specs.declared.session.PlainSession.{PlainSession}

@@ -3,7 +3,7 @@
 --                                 objects
 --     Settles o outcome           what was settled is an outcome's act, pick and effect
 use Rattle.std.specs.Prelude.{◌≡◌, ℕ, ◌<◌}
-use Rattle.rif_terms.specs.declared.rule.Doc.{Doc}
+use Rattle.rif_tree.specs.declared.rule.Doc.{Doc}
 use Rattle.session_states.specs.declared.state.State.{State}
 use Rattle.session_states.specs.declared.state.State.TheVariants.{Idle, Firing, UntilHalt, Disposed}
 use Rattle.session_states.specs.declared.turn.Act.TheVariants.{Fired}

@@ -10,11 +10,11 @@ use Rattle.std.specs.Prelude.{ℕ, zero, suc, ◌-◌, List, [], ◌∷◌, fold
 use Rattle.std.specs.List.{filter_map}
 use Rattle.std.specs.Option.{option_map_or, option_and_then}
 use Rattle.std.specs.declared.option.Option.{Option}
-use Rattle.rif_terms.specs.declared.fact.Fact.{Fact}
-use Rattle.rif_terms.specs.declared.instance.Instance.{Instance}
-use Rattle.rif_terms.specs.declared.change.Change.{Change}
-use Rattle.rif_terms.specs.declared.rule.Doc.{Doc}
-use Rattle.rif_terms.specs.Facts.{facts_after, net_change}
+use Rattle.rif_values.specs.declared.fact.Fact.{Fact}
+use Rattle.rif_values.specs.declared.instance.Instance.{Instance}
+use Rattle.rif_values.specs.declared.change.Change.{Change}
+use Rattle.rif_tree.specs.declared.rule.Doc.{Doc}
+use Rattle.rif_values.specs.Facts.{facts_after, net_change}
 use Rattle.session_states.specs.declared.item.Item.{Item}
 use Rattle.session_states.specs.declared.item.Item.TheVariants.{Change as ChangeItem, Fire, Until, Halt, Dispose}
 use Rattle.session_states.specs.declared.item.Entry.{Entry}
@@ -29,9 +29,9 @@ use Rattle.session_states.specs.declared.turn.Turn.{Turn}
 use Rattle.session_states.specs.Machine.{state_after}
 use Rattle.prd_relation.specs.History.{Snapshot, first_history, newest_facts, moments_of}
 use Rattle.prd_relation.specs.Choice.{rule_of, chosen_instance}
-use Rattle.prd_relation.specs.declared.block.Block.{Block}
-use Rattle.prd_relation.specs.declared.block.Block.TheVariants.{Void as VoidBlock, Changes}
-use Rattle.prd_relation.specs.Blocks.{block_of}
+use Rattle.rif_actions.specs.declared.block.Block.{Block}
+use Rattle.rif_actions.specs.declared.block.Block.TheVariants.{Void as VoidBlock, Changes}
+use Rattle.rif_actions.specs.Blocks.{block_of}
 
 pub record Session : Type 0 where
   pub state : State

@@ -1,6 +1,6 @@
 ghost use Rattle.std.specs.Prelude.{◌≡◌, IfOk};
 
-use rif_terms::{Instance, OutOfMemory};
+use rif_values::{Instance, OutOfMemory};
 
 /// An instance that isn't refracted, with what the choice asks of it: its rule's priority, and its age in
 /// states.

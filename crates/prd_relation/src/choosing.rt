@@ -9,7 +9,8 @@ ghost use Rattle.std.specs.List.{list_any};
 use crate::candidate::Candidate;
 use crate::mark::Mark;
 use crate::plain::Plain;
-use rif_terms::{Doc, Instance, OutOfMemory};
+use rif_tree::Doc;
+use rif_values::{Instance, OutOfMemory};
 use std::alloc::Global;
 
 /// The instance to be picked next, or None where each instance of the newest conflict set is refracted.

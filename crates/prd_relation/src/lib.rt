@@ -5,7 +5,6 @@
 //! |---|---|---|
 //! | `moment.rt`, `mark.rt`, `plain.rt` | `Plain`, the history as its conflict sets | `specs/History.antt` |
 //! | `candidate.rt`, `choosing.rt` | `choose_plain`: a pick is made here | `specs/Choice.antt` |
-//! | `block.rt`, `scope.rt`, `uses.rt`, `blocks.rt` | `Block`, what a rule's block does | `specs/Blocks.antt` |
 //! | `steps.rt`, `session.rt` | a turn, step by step | `specs/Turns.antt` |
 //! | `replay.rt` | `replay_plain`, the run of some batches | `specs/Runs.antt` |
 //! | `laws.rt` | laws of the definitions | `specs/Laws.antt` |
@@ -13,8 +12,6 @@
 //! Begin at `replay_plain`.
 #![tactic(auto)]
 
-mod block;
-mod blocks;
 mod candidate;
 mod choosing;
 pub mod laws;
@@ -22,12 +19,10 @@ mod mark;
 mod moment;
 mod plain;
 mod replay;
-mod scope;
 mod session;
 mod steps;
 #[cfg(test)]
 mod tests;
-mod uses;
 
 pub use candidate::Candidate;
 pub use choosing::{choose_plain, priority};

@@ -1,4 +1,4 @@
-use rif_terms::{Instance, Listed};
+use rif_values::{Instance, Listed};
 
 /// One state of a history: its conflict set, and the instance whose firing led to it, where one did.
 ///

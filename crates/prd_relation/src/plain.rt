@@ -1,15 +1,17 @@
 ghost use Rattle.std.specs.Prelude.{◌≡◌, ◌<◌, ◌∷◌, map, length, IfOk, IfSome, IfNone, OnOk, OnErr, Some, false};
 ghost use Rattle.std.specs.Prelude.{slice_get};
-ghost use Rattle.rif_terms.specs.InstanceOrder.{instance_cmp};
-ghost use Rattle.rif_terms.specs.Sets.{has};
+ghost use Rattle.rif_values.specs.InstanceOrder.{instance_cmp};
+ghost use Rattle.rif_values.specs.Sets.{has};
 ghost use Rattle.rif_match.specs.ConflictSet.{conflict_set};
 ghost use Rattle.prd_relation.specs.History.{first_history, moments_of, newest_conflict_set, is_pick};
 ghost use Rattle.prd_relation.specs.Layout.{mark_of, next_mark};
 
 use crate::mark::Mark;
 use crate::moment::Moment;
-use rif_match::{Facts, list_instances};
-use rif_terms::{Doc, Instance, OutOfMemory};
+use rif_facts::Facts;
+use rif_match::list_instances;
+use rif_tree::Doc;
+use rif_values::{Instance, OutOfMemory};
 use std::alloc::Global;
 use std::marker::Model;
 

@@ -6,7 +6,8 @@ ghost use Rattle.prd_relation.specs.Session.{Shows, budget_of};
 ghost use Rattle.prd_relation.specs.Replay.{IsReplayed, IsNextTurn};
 
 use crate::session::PlainSession;
-use rif_terms::{Doc, Listed, OutOfMemory};
+use rif_tree::Doc;
+use rif_values::{Listed, OutOfMemory};
 use session_states::{Act, Batch, Turn};
 use std::alloc::Global;
 use std::collections::VecDeque;

@@ -2,11 +2,10 @@ ghost use Rattle.std.specs.Prelude.{◌≡◌, ◌≤◌, ◌^◌};
 
 use crate::choosing::choose_plain;
 use crate::plain::Plain;
-use crate::steps::{
-    block_of_instance, changes_of, effect_of, ending, facts_after, made_after, state_after,
-};
-use rif_match::Facts;
-use rif_terms::{Doc, Instance, OutOfMemory};
+use crate::steps::{block_of_instance, changes_of, effect_of, ending, facts_after, made_after, state_after};
+use rif_facts::Facts;
+use rif_tree::Doc;
+use rif_values::{Instance, OutOfMemory};
 use session_states::{Act, Batch, Effect, Entry, State, Turn};
 use std::alloc::Global;
 

@@ -4,13 +4,14 @@ ghost use Rattle.prd_relation.specs.Turns.{state_with, changes_in, change_of, en
 ghost use Rattle.prd_relation.specs.Turns.{facts_after_block, effect_of_block, made_after_block, instance_block};
 ghost use Rattle.prd_relation.specs.Choice.{rule_of};
 ghost use Rattle.prd_relation.specs.Endings.{NeverFires};
-ghost use Rattle.prd_relation.specs.Uses.{HasMadeAtMost};
+ghost use Rattle.rif_actions.specs.Uses.{HasMadeAtMost};
 ghost use Rattle.std.specs.Option.{option_copied, option_to_list};
 
-use crate::block::Block;
-use crate::blocks::block;
-use rif_match::Facts;
-use rif_terms::{Change, Doc, Instance, OutOfMemory, Rule};
+use rif_actions::Block;
+use rif_actions::block;
+use rif_facts::Facts;
+use rif_tree::{Doc, Rule};
+use rif_values::{Change, Instance, OutOfMemory};
 use session_states::{Act, Effect, Entry, Item, State, after};
 use std::alloc::Global;
 

@@ -7,9 +7,9 @@ use Rattle.std.proofs.lemmas.Str.{is_utf8-from_IsUtf8, IsUtf8-from_is_utf8, IsUt
 use Rattle.std.proofs.Math.Logic.{⊎_elim}
 use Rattle.std.specs.Str.{is_utf8, IsValidUpTo}
 use Rattle.std.specs.Str.Lossy.{valid_len_up_to, utf8_valid_len}
-use Rattle.rif_terms.specs.declared.limits.TheConstants.{MOST_INPUT_BYTES}
-use Rattle.rif_terms.specs.declared.refusal.Refusal.{Refusal}
-use Rattle.rif_terms.specs.declared.refusal.Refusal.TheVariants.{InputTooLong, NotUtf8, BadToken}
+use Rattle.rif_refusals.specs.declared.limits.TheConstants.{MOST_INPUT_BYTES}
+use Rattle.rif_refusals.specs.declared.refusal.Refusal.{Refusal}
+use Rattle.rif_refusals.specs.declared.refusal.Refusal.TheVariants.{InputTooLong, NotUtf8, BadToken}
 use Rattle.rif_lex.specs.Lexing.{tokens_of, lexed, IsRefused, InputsAreRefused}
 use Rattle.rif_lex.proofs.TestLemmas.{by_test}
 use Rattle.rif_lex.proofs.LexingLemmas.{lexed_text, lexed_broken}

@@ -1,9 +1,9 @@
 -- Words of private clauses. No public clause cites this module.
 use Rattle.std.specs.Prelude.{◌≡◌, ℕ, ◌+◌, ◌≤◌, List, Ok, Err}
 use Rattle.std.specs.declared.result.Result.{Result}
-use Rattle.rif_terms.specs.declared.refusal.Refusal.{Refusal}
-use Rattle.rif_terms.specs.declared.fault.Fault.{Fault}
-use Rattle.rif_terms.specs.declared.fault.Fault.TheVariants.{Refused, OutOfMemory}
+use Rattle.rif_refusals.specs.declared.refusal.Refusal.{Refusal}
+use Rattle.rif_refusals.specs.declared.fault.Fault.{Fault}
+use Rattle.rif_refusals.specs.declared.fault.Fault.TheVariants.{Refused, OutOfMemory}
 use Rattle.rif_lex.specs.declared.token.Token.{Token}
 use Rattle.rif_lex.specs.declared.piece.Piece.{Piece}
 use Rattle.rif_lex.specs.declared.piece.Piece.TheVariants.{Unreadable, Blank, Lexeme}

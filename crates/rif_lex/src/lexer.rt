@@ -5,8 +5,8 @@ ghost use Rattle.rif_lex.specs.Scanning.{IsTextFor, PutsTokens};
 use crate::piece::Piece;
 use crate::place::{Place, past, past_token};
 use crate::token::{Token, Tokens};
-use rif_terms::limits::MOST_INPUT_BYTES;
-use rif_terms::{Fault, Refusal};
+use rif_refusals::limits::MOST_INPUT_BYTES;
+use rif_refusals::{Fault, Refusal};
 use std::alloc::Global;
 
 /// All tokens of the bytes, in order and to their end, or the first of three refusals that stands.

@@ -4,8 +4,8 @@ mod table;
 
 use crate::tokens;
 use broken::{BROKEN, WHOLE};
-use rif_terms::limits::MOST_INPUT_BYTES;
-use rif_terms::{Fault, Refusal};
+use rif_refusals::limits::MOST_INPUT_BYTES;
+use rif_refusals::{Fault, Refusal};
 use std::alloc::{AllocError, Global};
 use std::process::Abort;
 use std::test::Fail;

@@ -1,4 +1,4 @@
-use rif_terms::Listed;
+use rif_values::Listed;
 
 /// The kinds of tokens.
 ///

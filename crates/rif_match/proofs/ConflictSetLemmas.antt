@@ -6,17 +6,17 @@ use Rattle.std.specs.List.Sorted.{IsStrictlySortedBy}
 use Rattle.std.specs.Ordering.{ordering_then}
 use Rattle.std.specs.declared.cmp.Ordering.{Ordering}
 use Rattle.std.specs.declared.cmp.Ordering.TheVariants.{Less, Equal}
-use Rattle.rif_terms.proofs.OrderLemmas.{total_bindings, exact_bindings}
-use Rattle.rif_terms.proofs.SetsMembers.{set_ordered}
-use Rattle.rif_terms.specs.declared.fact.Fact.{Fact}
-use Rattle.rif_terms.specs.declared.instance.Instance.{Instance}
-use Rattle.rif_terms.specs.declared.rule.Doc.{Doc}
-use Rattle.rif_terms.specs.declared.rule.Rule.{Rule}
-use Rattle.rif_terms.specs.InstanceOrder.{instance_cmp}
-use Rattle.rif_terms.specs.Order.{binding_cmp}
-use Rattle.rif_terms.specs.Sets.{IsSet}
-use Rattle.rif_match.specs.Values.{Row}
-use Rattle.rif_match.specs.Extensions.{in_turn, through}
+use Rattle.rif_values.proofs.OrderLemmas.{total_bindings, exact_bindings}
+use Rattle.rif_sets.proofs.SetsMembers.{set_ordered}
+use Rattle.rif_values.specs.declared.fact.Fact.{Fact}
+use Rattle.rif_values.specs.declared.instance.Instance.{Instance}
+use Rattle.rif_tree.specs.declared.rule.Doc.{Doc}
+use Rattle.rif_tree.specs.declared.rule.Rule.{Rule}
+use Rattle.rif_values.specs.InstanceOrder.{instance_cmp}
+use Rattle.rif_values.specs.Order.{binding_cmp}
+use Rattle.rif_values.specs.Sets.{IsSet}
+use Rattle.rif_values.specs.Bindings.{Row}
+use Rattle.rif_builtins.specs.Extensions.{in_turn, through}
 use Rattle.rif_match.specs.ConflictSet.{condition_of, rows_of, instance_of, instances_from, conflict_set}
 
 -- what holds of each of two lists' elements holds of each of both

@@ -1,7 +1,3 @@
-pub mod BoundLemmas
 pub mod ConflictSetLemmas
-pub mod FactsLemmas
-pub mod GatheringLemmas
 pub mod ListingLemmas
-pub mod MatchingLemmas
 pub mod ThroughLemmas

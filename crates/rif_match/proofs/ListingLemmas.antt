@@ -4,15 +4,15 @@ use Rattle.std.proofs.Common.{append_assoc, add-one, drop-cons, subst, IfOk, Res
 use Rattle.std.specs.declared.cmp.Ordering.{Ordering}
 use Rattle.std.specs.List.{flat_map}
 use Rattle.std.proofs.lemmas.List.{map-append}
-use Rattle.rif_terms.specs.declared.fact.Fact.{Fact}
-use Rattle.rif_terms.specs.declared.instance.Instance.{Instance}
-use Rattle.rif_terms.specs.declared.rule.Rule.{Rule}
-use Rattle.rif_terms.specs.contracts.binding.BindingOrd.TheImpl as binding_order
-use Rattle.rif_terms.specs.Order.{binding_cmp}
-use Rattle.rif_terms.specs.Sets.{ordered}
-use Rattle.rif_terms.proofs.OrderLemmas.{binding_order_is}
-use Rattle.rif_match.specs.Values.{Row}
-use Rattle.rif_match.specs.Extensions.{in_turn}
+use Rattle.rif_values.specs.declared.fact.Fact.{Fact}
+use Rattle.rif_values.specs.declared.instance.Instance.{Instance}
+use Rattle.rif_tree.specs.declared.rule.Rule.{Rule}
+use Rattle.rif_values.specs.contracts.binding.BindingOrd.TheImpl as binding_order
+use Rattle.rif_values.specs.Order.{binding_cmp}
+use Rattle.rif_values.specs.Sets.{ordered}
+use Rattle.rif_values.proofs.OrderLemmas.{binding_order_is}
+use Rattle.rif_values.specs.Bindings.{Row}
+use Rattle.rif_builtins.specs.Extensions.{in_turn}
 use Rattle.rif_match.specs.ConflictSet.{rows_of, instance_of, instances_from}
 
 in_turn_append : (ss ts : List (List Row → List Row)) (rows : List Row)

@@ -6,15 +6,15 @@
 use Rattle.std.specs.Prelude.{ℕ, suc, List, [], ◌∷◌, ◌++◌, map}
 use Rattle.std.specs.List.{flat_map}
 use Rattle.std.specs.Option.{option_to_list}
-use Rattle.rif_terms.specs.declared.fact.Fact.{Fact}
-use Rattle.rif_terms.specs.declared.instance.Instance.{Instance}
-use Rattle.rif_terms.specs.declared.tree.Formula.{Formula}
-use Rattle.rif_terms.specs.declared.rule.Rule.{Rule}
-use Rattle.rif_terms.specs.declared.rule.Doc.{Doc}
-use Rattle.rif_terms.specs.Order.{binding_cmp}
-use Rattle.rif_terms.specs.Sets.{ordered}
-use Rattle.rif_match.specs.Values.{Row}
-use Rattle.rif_match.specs.Extensions.{in_turn, through}
+use Rattle.rif_values.specs.declared.fact.Fact.{Fact}
+use Rattle.rif_values.specs.declared.instance.Instance.{Instance}
+use Rattle.rif_tree.specs.declared.tree.Formula.{Formula}
+use Rattle.rif_tree.specs.declared.rule.Rule.{Rule}
+use Rattle.rif_tree.specs.declared.rule.Doc.{Doc}
+use Rattle.rif_values.specs.Order.{binding_cmp}
+use Rattle.rif_values.specs.Sets.{ordered}
+use Rattle.rif_values.specs.Bindings.{Row}
+use Rattle.rif_builtins.specs.Extensions.{in_turn, through}
 
 -- the `such that` formulas, those of the outermost `Forall` first, and then the `If` formula
 abbrev pub condition_of : Rule → List Formula

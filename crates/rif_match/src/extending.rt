@@ -1,15 +1,17 @@
 //! Rows taken through formulas. This is the plain way: each pattern is tried on each fact for each row.
 ghost use Rattle.std.specs.Prelude.{◌≡◌, ◌++◌, [], ◌∷◌, IfOk, OnOk, map, filter, length, ◌==◌};
 ghost use Rattle.std.specs.List.{filter_map, flat_map};
-ghost use Rattle.rif_match.specs.Extensions.{matched, match_fact, in_turn, through, slots_of, equal_row, holds_at, without_variables};
-ghost use Rattle.rif_match.specs.Values.{values_of};
+ghost use Rattle.rif_builtins.specs.Extensions.{matched, match_fact, in_turn, through, slots_of, equal_row, holds_at};
+ghost use Rattle.rif_values.specs.Bindings.{without_variables};
+ghost use Rattle.rif_builtins.specs.Values.{values_of};
 
-use crate::builtins::holds;
+use rif_builtins::holds;
 use crate::gathering::{push_found, push_kept};
-use crate::matching::{fact_match, term_match};
-use crate::pattern::Pattern;
-use crate::values::{row_without, value, values};
-use rif_terms::{Binding, Fact, Formula, OutOfMemory, Pred, Term};
+use rif_builtins::{fact_match, term_match};
+use rif_builtins::Pattern;
+use rif_builtins::{row_without, value, values};
+use rif_tree::{Formula, Pred, Term};
+use rif_values::{Binding, Fact, OutOfMemory};
 use sqlite_items::Items;
 use std::alloc::Global;
 

@@ -2,7 +2,7 @@
 ghost use Rattle.std.specs.Prelude.{◌≡◌, ◌++◌, [], ◌∷◌, OnOk, if◌then◌else◌};
 ghost use Rattle.std.specs.Option.{option_to_list};
 
-use rif_terms::{Binding, OutOfMemory};
+use rif_values::{Binding, OutOfMemory};
 
 /// Puts a row that was found at the end.
 pub fn push_found(all: &mut Vec<Binding>, found: Option<Binding>) -> Result<(), OutOfMemory>

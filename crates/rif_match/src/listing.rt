@@ -3,13 +3,13 @@ ghost use Rattle.std.specs.Prelude.{◌≡◌, ◌+◌, ◌++◌, map, IfOk, OnO
 ghost use Rattle.std.specs.List.{flat_map};
 ghost use Rattle.std.specs.Option.{option_to_list};
 ghost use Rattle.rif_match.specs.ConflictSet.{conflict_set, instance_of, rows_of};
-ghost use Rattle.rif_match.specs.Extensions.{extensions_of, in_turn, through};
+ghost use Rattle.rif_builtins.specs.Extensions.{extensions_of, in_turn, through};
 
 use crate::extending::{rows_through, rows_through_each};
-use crate::facts::Facts;
-use rif_terms::{
-    Binding, Doc, Fact, Formula, Instance, Level, Listed, OutOfMemory, Rule, sorted_set,
-};
+use rif_facts::Facts;
+use rif_sets::sorted_set;
+use rif_tree::{Doc, Formula, Level, Rule};
+use rif_values::{Binding, Fact, Instance, Listed, OutOfMemory};
 use std::alloc::Global;
 
 /// The rows that extend the row and satisfy the formula, in order, each once.

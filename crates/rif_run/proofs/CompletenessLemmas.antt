@@ -1,8 +1,8 @@
 -- An input that a command is for isn't refused to it.
 use Rattle.std.proofs.Common.{◌≡◌, ◌∙◌, ◌≤◌, ℕ, List, length, take, drop, Option, Some, IfSome, refl, ap, subst, ⊎_elim, arith}
 use Rattle.std.proofs.lemmas.List.{take_all}
-use Rattle.rif_terms.specs.declared.limits.TheConstants.{MOST_INPUT_BYTES}
-use Rattle.rif_terms.specs.declared.refusal.Refusal.{Refusal}
+use Rattle.rif_refusals.specs.declared.limits.TheConstants.{MOST_INPUT_BYTES}
+use Rattle.rif_refusals.specs.declared.refusal.Refusal.{Refusal}
 use Rattle.rif_script.specs.declared.job.Job.{Job}
 use Rattle.rif_script.specs.Simple.{is_simple_job}
 use Rattle.rif_script.proofs.CallerLemmas.{jobs_have_one_outcome}

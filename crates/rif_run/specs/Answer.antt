@@ -1,9 +1,9 @@
 -- What the program answers to an input.
 -- Source: the project's own (docs/FORMATS.md, "Words" and "Statuses").
 use Rattle.std.specs.Prelude.{◌≡◌, ℕ, List}
-use Rattle.rif_terms.specs.declared.fault.Fault.{Fault}
-use Rattle.rif_terms.specs.declared.fault.Fault.TheVariants.{Refused as RefusedFault, OutOfMemory as OutOfMemoryFault}
-use Rattle.rif_terms.specs.declared.refusal.Refusal.{Refusal}
+use Rattle.rif_refusals.specs.declared.fault.Fault.{Fault}
+use Rattle.rif_refusals.specs.declared.fault.Fault.TheVariants.{Refused as RefusedFault, OutOfMemory as OutOfMemoryFault}
+use Rattle.rif_refusals.specs.declared.refusal.Refusal.{Refusal}
 use Rattle.prd_reader.specs.Canonical.{canonical_text}
 use Rattle.rif_script.specs.declared.job.Job.{Job}
 use Rattle.rif_script.specs.Jobs.{IsJob, IsRefused}

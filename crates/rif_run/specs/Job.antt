@@ -2,10 +2,10 @@
 -- Source: the project's own (docs/FORMATS.md, "Jobs", "What `run` evaluates" and "The trace"; docs/PROFILE.md,
 -- "Replay").
 use Rattle.std.specs.Prelude.{◌≡◌, ◌⊎◌, ℕ, true, false, List}
-use Rattle.rif_terms.specs.declared.fault.Fault.{Fault}
-use Rattle.rif_terms.specs.declared.fault.Fault.TheVariants.{Refused, OutOfMemory}
-use Rattle.rif_terms.specs.declared.refusal.Refusal.{Refusal}
-use Rattle.rif_terms.specs.declared.refusal.Refusal.TheVariants.{LeftOut}
+use Rattle.rif_refusals.specs.declared.fault.Fault.{Fault}
+use Rattle.rif_refusals.specs.declared.fault.Fault.TheVariants.{Refused, OutOfMemory}
+use Rattle.rif_refusals.specs.declared.refusal.Refusal.{Refusal}
+use Rattle.rif_refusals.specs.declared.refusal.Refusal.TheVariants.{LeftOut}
 use Rattle.session_states.specs.declared.item.Entry.{Entry}
 use Rattle.prd_relation.specs.Runs.{IsReplay, run_of, facts_at_end}
 use Rattle.rif_script.specs.declared.job.Job.{Job}

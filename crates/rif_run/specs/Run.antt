@@ -3,7 +3,7 @@
 use Rattle.std.specs.Prelude.{◌≡◌, ℕ, ◌+◌, List, Some}
 use Rattle.std.specs.Io.KnownBytes.{Appends}
 use Rattle.std.specs.declared.option.Option.{Option}
-use Rattle.rif_terms.specs.declared.limits.TheConstants.{MOST_INPUT_BYTES}
+use Rattle.rif_refusals.specs.declared.limits.TheConstants.{MOST_INPUT_BYTES}
 use Rattle.rif_script.specs.declared.job.Job.{Job}
 use Rattle.rif_script.specs.Jobs.{IsJob}
 use Rattle.rif_run.specs.declared.command.Command.{Command}

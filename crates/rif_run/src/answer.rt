@@ -7,7 +7,8 @@ use crate::command::Command;
 use crate::job::run_text;
 use crate::status::Status;
 use rif_script::write_refusal;
-use rif_terms::{Fault, OutOfMemory, Refusal};
+use rif_refusals::{Fault, Refusal};
+use rif_values::OutOfMemory;
 use std::alloc::Global;
 
 /// What is written for an input, and the status that says so.

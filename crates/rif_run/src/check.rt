@@ -4,7 +4,7 @@ ghost use Rattle.rif_run.specs.Answer.{IsCheckText};
 
 use prd_reader::write_doc;
 use rif_script::read_job;
-use rif_terms::Fault;
+use rif_refusals::Fault;
 use std::alloc::Global;
 
 /// The canonical text of the document of the job that the bytes are, or why there is none. The cost is

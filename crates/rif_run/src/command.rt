@@ -1,7 +1,7 @@
 ghost use Rattle.std.specs.Prelude.{◌∷◌, [], MatchOption};
 ghost use Rattle.rif_run.specs.Commands.{AreAccepted, IsCommand};
 
-use rif_terms::Text;
+use rif_values::Text;
 
 /// What the program can be told to do with a job.
 ///

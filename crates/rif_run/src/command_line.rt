@@ -1,6 +1,6 @@
 ghost use Rattle.std.specs.Prelude.{◌≡◌, codes, IfOk, IsUtf8};
 
-use rif_terms::{OutOfMemory, Text};
+use rif_values::{OutOfMemory, Text};
 use std::alloc::Global;
 use std::env::{Env, FillError};
 

@@ -4,7 +4,8 @@ ghost use Rattle.rif_run.specs.Job.{IsRunOf, IsRunText, RefusesRun};
 
 use prd_relation::replay_plain;
 use rif_script::{Job, batches_of, read_job, simple_job, write_run};
-use rif_terms::{Fault, OutOfMemory, Refusal};
+use rif_refusals::{Fault, Refusal};
+use rif_values::OutOfMemory;
 use std::alloc::Global;
 
 /// The text of the run of the job that the bytes are, or why there is none: the bytes are refused, or the

@@ -1,7 +1,8 @@
 use prd_reader::{explain, explain_line};
 use rif_lex::tokens;
 use rif_script::{doc_part, read_job};
-use rif_terms::{Fault, OutOfMemory, Refusal};
+use rif_refusals::{Fault, Refusal};
+use rif_values::OutOfMemory;
 use std::alloc::Global;
 
 /// One line on why a run of an input, or a check of it, was refused: the place, what was found there, and

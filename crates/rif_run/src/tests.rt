@@ -1,7 +1,7 @@
 use crate::status::Status;
 use crate::top::rif_run;
 use rif_script::{MemSink, MemSource, Source};
-use rif_terms::{OutOfMemory, Text};
+use rif_values::{OutOfMemory, Text};
 use std::alloc::{AllocError, Global};
 use std::test::Fail;
 

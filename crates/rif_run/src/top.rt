@@ -9,7 +9,7 @@ use crate::reading::{MOST_BYTES_READ, ReadError, read_up_to};
 use crate::status::Status;
 use crate::writing::write_text;
 use rif_script::{Sink, Source};
-use rif_terms::Text;
+use rif_values::Text;
 use std::alloc::Global;
 
 /// Does what the words say with a job from `src`: for `run` it writes the job's run to `out`, for `check`

@@ -5,11 +5,11 @@ use Rattle.std.proofs.Common.{inl, inr}
 use Rattle.std.specs.Prelude.{Ok, Err}
 use Rattle.std.specs.declared.result.Result.{Result}
 use Rattle.std.proofs.lemmas.Bool.Decides.{nat_tests}
-use Rattle.rif_terms.specs.declared.limits.TheConstants.{MOST_BUDGETS, MOST_CLIENTS, MOST_ITEMS}
-use Rattle.rif_terms.specs.declared.refusal.Refusal.{Refusal}
-use Rattle.rif_terms.specs.declared.refusal.Refusal.TheVariants.{TooManyClients}
-use Rattle.rif_terms.specs.declared.fault.Fault.{Fault}
-use Rattle.rif_terms.specs.declared.fault.Fault.TheVariants.{Refused, OutOfMemory}
+use Rattle.rif_refusals.specs.declared.limits.TheConstants.{MOST_BUDGETS, MOST_CLIENTS, MOST_ITEMS}
+use Rattle.rif_refusals.specs.declared.refusal.Refusal.{Refusal}
+use Rattle.rif_refusals.specs.declared.refusal.Refusal.TheVariants.{TooManyClients}
+use Rattle.rif_refusals.specs.declared.fault.Fault.{Fault}
+use Rattle.rif_refusals.specs.declared.fault.Fault.TheVariants.{Refused, OutOfMemory}
 use Rattle.rif_lex.specs.Lexing.{Answers}
 use Rattle.prd_reader.specs.Prefixes.{Prefixes}
 use Rattle.prd_reader.specs.Values.{has_name, place_of}

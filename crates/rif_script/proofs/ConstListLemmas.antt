@@ -2,7 +2,7 @@
 use Rattle.std.proofs.Common.{◌≡◌, ◌∙◌, sym, ap, refl, ℕ, suc, true, false, List, [], ◌∷◌, ◌++◌, append_assoc}
 use Rattle.std.proofs.Common.{append-nil, Option, Some, None}
 use Rattle.std.specs.Prelude.{Err}
-use Rattle.rif_terms.specs.declared.constant.Const.{Const}
+use Rattle.rif_values.specs.declared.constant.Const.{Const}
 use Rattle.prd_reader.specs.declared.leaf.Leaf.{Leaf}
 use Rattle.prd_reader.specs.declared.leaf.Leaf.TheVariants.{Close}
 use Rattle.rif_script.specs.declared.sent_tokens.SentTokens.{SentTokens}

@@ -1,9 +1,9 @@
 -- What is given by the leaves that are left, where the first of them is known.
 use Rattle.std.proofs.Common.{ℕ, ◌≡◌, ◌∙◌, ap, refl, true, false, List, [], ◌∷◌, Option, Some, None}
 use Rattle.std.specs.Option.{MatchOption}
-use Rattle.rif_terms.specs.declared.constant.Const.{Const}
-use Rattle.rif_terms.specs.declared.change.Change.TheVariants.{Retract, RetractSlot}
-use Rattle.rif_terms.specs.declared.fact.Fact.{Fact}
+use Rattle.rif_values.specs.declared.constant.Const.{Const}
+use Rattle.rif_values.specs.declared.change.Change.TheVariants.{Retract, RetractSlot}
+use Rattle.rif_values.specs.declared.fact.Fact.{Fact}
 use Rattle.rif_lex.specs.Spelling.{Written}
 use Rattle.prd_reader.specs.declared.leaf.Leaf.{Leaf}
 use Rattle.prd_reader.specs.declared.leaf.Leaf.TheVariants.{Int}

@@ -5,11 +5,11 @@ use Rattle.std.proofs.Common.{[], ◌∷◌, drop, length, length-drop, arith, i
 use Rattle.std.specs.Prelude.{Ok, Err, IfErr, IfOk}
 use Rattle.std.specs.Str.{IsValidUpTo}
 use Rattle.std.specs.declared.result.Result.{Result}
-use Rattle.rif_terms.specs.declared.limits.TheConstants.{MOST_INPUT_BYTES}
-use Rattle.rif_terms.specs.declared.refusal.Refusal.TheVariants.{InputTooLong, NotUtf8}
-use Rattle.rif_terms.specs.declared.fault.Fault.{Fault}
-use Rattle.rif_terms.specs.declared.fault.Fault.TheVariants.{Refused, OutOfMemory}
-use Rattle.rif_terms.specs.declared.rule.Doc.{Doc}
+use Rattle.rif_refusals.specs.declared.limits.TheConstants.{MOST_INPUT_BYTES}
+use Rattle.rif_refusals.specs.declared.refusal.Refusal.TheVariants.{InputTooLong, NotUtf8}
+use Rattle.rif_refusals.specs.declared.fault.Fault.{Fault}
+use Rattle.rif_refusals.specs.declared.fault.Fault.TheVariants.{Refused, OutOfMemory}
+use Rattle.rif_tree.specs.declared.rule.Doc.{Doc}
 use Rattle.rif_lex.specs.declared.token.Token.{Token}
 use Rattle.rif_lex.specs.Lexing.{Answers, lexed}
 use Rattle.prd_reader.specs.Documents.{IsRead, IsRefused as IsDocumentRefused, RefusesDocument}

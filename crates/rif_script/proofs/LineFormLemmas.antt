@@ -3,9 +3,9 @@ use Rattle.std.proofs.Common.{◌≡◌, ◌∙◌, sym, subst, ap, refl, ℕ, B
 use Rattle.std.proofs.Common.{Some, None, ◌⊎◌, inl, inr}
 use Rattle.std.specs.Prelude.{codes, bytes_eq, map, Ok, Err}
 use Rattle.std.specs.declared.result.Result.{Result}
-use Rattle.rif_terms.specs.declared.change.Change.{Change}
-use Rattle.rif_terms.specs.declared.change.Change.TheVariants.{Assert, Retract, RetractSlot, RetractObject, Modify}
-use Rattle.rif_terms.specs.declared.refusal.Refusal.{Refusal}
+use Rattle.rif_values.specs.declared.change.Change.{Change}
+use Rattle.rif_values.specs.declared.change.Change.TheVariants.{Assert, Retract, RetractSlot, RetractObject, Modify}
+use Rattle.rif_refusals.specs.declared.refusal.Refusal.{Refusal}
 use Rattle.rif_lex.specs.declared.token.Kind.{Kind}
 use Rattle.rif_lex.specs.declared.token.Kind.TheVariants.{Word}
 use Rattle.rif_lex.specs.declared.token.Token.{Token}

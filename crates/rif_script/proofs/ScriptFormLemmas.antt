@@ -6,9 +6,9 @@ use Rattle.std.proofs.Common.{inl, inr}
 use Rattle.std.specs.Prelude.{Ok, Err}
 use Rattle.std.specs.declared.result.Result.{Result}
 use Rattle.std.proofs.lemmas.Bool.Decides.{nat_tests}
-use Rattle.rif_terms.specs.declared.limits.TheConstants.{MOST_CLIENTS, MOST_ITEMS, MOST_BUDGETS}
-use Rattle.rif_terms.specs.declared.refusal.Refusal.{Refusal}
-use Rattle.rif_terms.specs.declared.refusal.Refusal.TheVariants.{BudgetTooLarge, TooManyItems, TooManyClients}
+use Rattle.rif_refusals.specs.declared.limits.TheConstants.{MOST_CLIENTS, MOST_ITEMS, MOST_BUDGETS}
+use Rattle.rif_refusals.specs.declared.refusal.Refusal.{Refusal}
+use Rattle.rif_refusals.specs.declared.refusal.Refusal.TheVariants.{BudgetTooLarge, TooManyItems, TooManyClients}
 use Rattle.prd_reader.specs.Prefixes.{Prefixes}
 use Rattle.prd_reader.specs.Values.{has_name, place_of, with_name}
 use Rattle.session_states.specs.declared.item.Item.{Item}

@@ -4,10 +4,10 @@ use Rattle.std.proofs.Common.{◌≡◌, ◌∙◌, sym, subst, ap, refl, ℕ, �
 use Rattle.std.proofs.Common.{append-nil, Option, Some, None, length, length-append, arith, All, ◌⊎◌, inl, inr}
 use Rattle.std.specs.Prelude.{Ok, Err}
 use Rattle.std.specs.declared.result.Result.{Result}
-use Rattle.rif_terms.specs.declared.limits.TheConstants.{MOST_CLIENTS, MOST_ITEMS, MOST_BUDGETS}
-use Rattle.rif_terms.specs.declared.refusal.Refusal.{Refusal}
-use Rattle.rif_terms.specs.declared.refusal.Refusal.TheVariants.{BadLine, BudgetTooLarge, TooManyItems}
-use Rattle.rif_terms.specs.declared.refusal.Refusal.TheVariants.{TooManyClients}
+use Rattle.rif_refusals.specs.declared.limits.TheConstants.{MOST_CLIENTS, MOST_ITEMS, MOST_BUDGETS}
+use Rattle.rif_refusals.specs.declared.refusal.Refusal.{Refusal}
+use Rattle.rif_refusals.specs.declared.refusal.Refusal.TheVariants.{BadLine, BudgetTooLarge, TooManyItems}
+use Rattle.rif_refusals.specs.declared.refusal.Refusal.TheVariants.{TooManyClients}
 use Rattle.prd_reader.specs.Prefixes.{Prefixes}
 use Rattle.session_states.specs.declared.item.Item.{Item}
 use Rattle.rif_script.specs.declared.script.Script.{Script}

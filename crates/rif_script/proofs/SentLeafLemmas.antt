@@ -3,7 +3,7 @@ use Rattle.std.proofs.Common.{◌≡◌, ◌∙◌, sym, ap, refl, ℕ, suc, ◌
 use Rattle.std.proofs.Common.{get_or, length, length-drop, arith, Some}
 use Rattle.std.specs.Prelude.{map}
 use Rattle.std.proofs.Math.Seq.{drop-cons}
-use Rattle.rif_terms.specs.declared.constant.Const.{Const}
+use Rattle.rif_values.specs.declared.constant.Const.{Const}
 use Rattle.rif_lex.specs.declared.token.Kind.{Kind}
 use Rattle.rif_lex.specs.declared.token.Kind.TheVariants.{Word, Curie, Iri}
 use Rattle.rif_lex.specs.declared.token.Token.{Token}

@@ -2,7 +2,7 @@
 use Rattle.std.proofs.Common.{ℕ, ◌==◌, List, [], ◌∷◌, ◌≡◌, ◌&&◌, ◌||◌, Bool, refl, ap, sym, ◌∙◌}
 use Rattle.std.specs.List.{list_all, list_any}
 use Rattle.std.proofs.lemmas.List.Folds.{list_any-append, list_all-append}
-use Rattle.rif_terms.specs.declared.tree.Level.{Level}
+use Rattle.rif_tree.specs.declared.tree.Level.{Level}
 use Rattle.rif_script.specs.Simple.{declared_vars, has_var}
 
 pub declared_var : (v : ℕ) (levels : List Level)

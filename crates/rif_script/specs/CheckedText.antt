@@ -5,9 +5,9 @@
 --     CheckedTextIsAJob          law
 -- Source: the project's own (docs/FORMATS.md, "Canonical text").
 use Rattle.std.specs.Prelude.{◌≡◌, ◌⊎◌, ℕ, List, []}
-use Rattle.rif_terms.specs.declared.refusal.Refusal.{Refusal}
-use Rattle.rif_terms.specs.declared.refusal.Refusal.TheVariants.{InputTooLong, TooDeep}
-use Rattle.rif_terms.specs.declared.rule.Doc.{Doc}
+use Rattle.rif_refusals.specs.declared.refusal.Refusal.{Refusal}
+use Rattle.rif_refusals.specs.declared.refusal.Refusal.TheVariants.{InputTooLong, TooDeep}
+use Rattle.rif_tree.specs.declared.rule.Doc.{Doc}
 use Rattle.prd_reader.specs.Canonical.{canonical_text}
 use Rattle.rif_script.specs.declared.job.Job.{Job}
 use Rattle.rif_script.specs.Jobs.{IsJob, IsRefused}

@@ -5,7 +5,7 @@
 -- Source: the project's own (docs/PROFILE.md, "Replay").
 use Rattle.std.specs.Prelude.{suc, ◌<◌, ◌+◌, ◌==◌, ◌||◌, ℕ, Bool, true, false, List, [], ◌∷◌, ◌++◌, All, count_by}
 use Rattle.std.specs.Prelude.{drop, if◌then◌else◌, length, take}
-use Rattle.rif_terms.specs.declared.limits.TheConstants.{MOST_BATCH_ITEMS}
+use Rattle.rif_refusals.specs.declared.limits.TheConstants.{MOST_BATCH_ITEMS}
 use Rattle.session_states.specs.declared.item.Item.{Item}
 use Rattle.session_states.specs.declared.item.Item.TheVariants.{Change, Fire, Until, Halt, Dispose}
 use Rattle.session_states.specs.declared.item.Entry.{Entry}

@@ -7,7 +7,7 @@
 -- Source: the project's own (docs/PROFILE.md, "Replay").
 use Rattle.std.specs.Prelude.{suc, ◌≡◌, ◌≢◌, ◌==◌, ◌||◌, ℕ, true, false, Bool, List, [], ◌∷◌, ◌++◌, if◌then◌else◌}
 use Rattle.std.specs.Prelude.{length}
-use Rattle.rif_terms.specs.declared.limits.TheConstants.{MOST_BATCH_ITEMS}
+use Rattle.rif_refusals.specs.declared.limits.TheConstants.{MOST_BATCH_ITEMS}
 use Rattle.session_states.specs.declared.item.Item.{Item}
 use Rattle.session_states.specs.declared.item.Entry.{Entry}
 use Rattle.session_states.specs.Batches.{IsLawful}

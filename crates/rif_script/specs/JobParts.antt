@@ -2,9 +2,9 @@
 --     IsDocumentText text doc prefixes   the text is this document, with these prefixes
 --     RefusesText text fault             a call that gives none has no memory, or tells why the text is none
 use Rattle.std.specs.Prelude.{◌≡◌, ◌⊎◌, ℕ, List, Ok, Err}
-use Rattle.rif_terms.specs.declared.fault.Fault.{Fault}
-use Rattle.rif_terms.specs.declared.fault.Fault.TheVariants.{Refused, OutOfMemory}
-use Rattle.rif_terms.specs.declared.rule.Doc.{Doc}
+use Rattle.rif_refusals.specs.declared.fault.Fault.{Fault}
+use Rattle.rif_refusals.specs.declared.fault.Fault.TheVariants.{Refused, OutOfMemory}
+use Rattle.rif_tree.specs.declared.rule.Doc.{Doc}
 use Rattle.rif_lex.specs.declared.token.Token.{Token}
 use Rattle.rif_lex.specs.Lexing.{lexed}
 use Rattle.prd_reader.specs.Documents.{IsRead, IsRefused}

@@ -16,16 +16,16 @@ use Rattle.std.specs.Prelude.{if◌then◌else◌, List, [], ◌∷◌, ◌++◌
 use Rattle.std.specs.Prelude.{bytes_eq, length, map}
 use Rattle.std.specs.List.{list_all}
 use Rattle.std.specs.Str.{IsValidUpTo}
-use Rattle.rif_terms.specs.declared.limits.TheConstants.{MOST_INPUT_BYTES, MOST_CLIENTS, MOST_ITEMS, MOST_BUDGETS}
-use Rattle.rif_terms.specs.declared.limits.TheConstants.{MOST_NAME_CHARACTERS}
-use Rattle.rif_terms.specs.declared.change.Change.TheVariants.{Assert, Retract, RetractSlot, RetractObject, Modify}
-use Rattle.rif_terms.specs.declared.fact.Fact.TheVariants.{Frame}
-use Rattle.rif_terms.specs.declared.refusal.Refusal.{Refusal}
-use Rattle.rif_terms.specs.declared.refusal.Refusal.TheVariants.{InputTooLong, NotUtf8, BadLine, BudgetTooLarge}
-use Rattle.rif_terms.specs.declared.refusal.Refusal.TheVariants.{TooManyItems, TooManyClients}
-use Rattle.rif_terms.specs.declared.fault.Fault.{Fault}
-use Rattle.rif_terms.specs.declared.fault.Fault.TheVariants.{Refused, OutOfMemory}
-use Rattle.rif_terms.specs.declared.rule.Doc.{Doc}
+use Rattle.rif_refusals.specs.declared.limits.TheConstants.{MOST_INPUT_BYTES, MOST_CLIENTS, MOST_ITEMS, MOST_BUDGETS}
+use Rattle.rif_refusals.specs.declared.limits.TheConstants.{MOST_NAME_CHARACTERS}
+use Rattle.rif_values.specs.declared.change.Change.TheVariants.{Assert, Retract, RetractSlot, RetractObject, Modify}
+use Rattle.rif_values.specs.declared.fact.Fact.TheVariants.{Frame}
+use Rattle.rif_refusals.specs.declared.refusal.Refusal.{Refusal}
+use Rattle.rif_refusals.specs.declared.refusal.Refusal.TheVariants.{InputTooLong, NotUtf8, BadLine, BudgetTooLarge}
+use Rattle.rif_refusals.specs.declared.refusal.Refusal.TheVariants.{TooManyItems, TooManyClients}
+use Rattle.rif_refusals.specs.declared.fault.Fault.{Fault}
+use Rattle.rif_refusals.specs.declared.fault.Fault.TheVariants.{Refused, OutOfMemory}
+use Rattle.rif_tree.specs.declared.rule.Doc.{Doc}
 use Rattle.rif_lex.specs.declared.token.Kind.TheVariants.{Word}
 use Rattle.rif_lex.specs.declared.token.Token.{Token}
 use Rattle.rif_lex.specs.Characters.{begins, is_between}

@@ -5,10 +5,10 @@
 --     entry_line word names e    the line of an entry behind a word
 -- Source: the project's own (docs/FORMATS.md, "Jobs" and "The trace").
 use Rattle.std.specs.Prelude.{ℕ, List, [], ◌++◌, codes, decimal, slice_get, unwrap_or}
-use Rattle.rif_terms.specs.declared.change.Change.{Change}
-use Rattle.rif_terms.specs.declared.change.Change.TheVariants.{Assert, Retract, RetractSlot, RetractObject, Modify}
-use Rattle.rif_terms.specs.declared.fact.Fact.TheVariants.{Frame}
-use Rattle.rif_terms.specs.Writing.{const_text, fact_text}
+use Rattle.rif_values.specs.declared.change.Change.{Change}
+use Rattle.rif_values.specs.declared.change.Change.TheVariants.{Assert, Retract, RetractSlot, RetractObject, Modify}
+use Rattle.rif_values.specs.declared.fact.Fact.TheVariants.{Frame}
+use Rattle.rif_values.specs.Writing.{const_text, fact_text}
 use Rattle.session_states.specs.declared.item.Item.{Item}
 use Rattle.session_states.specs.declared.item.Item.TheVariants.{Change as Changing, Fire, Until, Halt, Dispose}
 use Rattle.session_states.specs.declared.item.Entry.{Entry}

@@ -1,16 +1,16 @@
 -- The line that a run prints for a refused input.
 -- Source: the project's own (docs/FORMATS.md, "Refusals").
 use Rattle.std.specs.Prelude.{ℕ, List, [], ◌++◌, codes, decimal}
-use Rattle.rif_terms.specs.Refusals.{refusal_number}
-use Rattle.rif_terms.specs.declared.refusal.Counted.{Counted}
-use Rattle.rif_terms.specs.declared.refusal.Counted.TheVariants.{Rules, Variables, Patterns, Actions}
-use Rattle.rif_terms.specs.declared.refusal.Refusal.{Refusal}
-use Rattle.rif_terms.specs.declared.refusal.Refusal.TheVariants.{InputTooLong, NotUtf8, BadToken, Expected, TooDeep}
-use Rattle.rif_terms.specs.declared.refusal.Refusal.TheVariants.{IntRange, UnknownPrefix, LeftOut, UnknownBuiltin}
-use Rattle.rif_terms.specs.declared.refusal.Refusal.TheVariants.{Arity, BadStrategy, PriorityRange, TooMany}
-use Rattle.rif_terms.specs.declared.refusal.Refusal.TheVariants.{Undeclared, DeclaredTwice, Unsafe, BadLine}
-use Rattle.rif_terms.specs.declared.refusal.Refusal.TheVariants.{BudgetTooLarge}
-use Rattle.rif_terms.specs.declared.refusal.Refusal.TheVariants.{TooManyItems, TooManyClients, TooManyBranches}
+use Rattle.rif_refusals.specs.Refusals.{refusal_number}
+use Rattle.rif_refusals.specs.declared.refusal.Counted.{Counted}
+use Rattle.rif_refusals.specs.declared.refusal.Counted.TheVariants.{Rules, Variables, Patterns, Actions}
+use Rattle.rif_refusals.specs.declared.refusal.Refusal.{Refusal}
+use Rattle.rif_refusals.specs.declared.refusal.Refusal.TheVariants.{InputTooLong, NotUtf8, BadToken, Expected, TooDeep}
+use Rattle.rif_refusals.specs.declared.refusal.Refusal.TheVariants.{IntRange, UnknownPrefix, LeftOut, UnknownBuiltin}
+use Rattle.rif_refusals.specs.declared.refusal.Refusal.TheVariants.{Arity, BadStrategy, PriorityRange, TooMany}
+use Rattle.rif_refusals.specs.declared.refusal.Refusal.TheVariants.{Undeclared, DeclaredTwice, Unsafe, BadLine}
+use Rattle.rif_refusals.specs.declared.refusal.Refusal.TheVariants.{BudgetTooLarge}
+use Rattle.rif_refusals.specs.declared.refusal.Refusal.TheVariants.{TooManyItems, TooManyClients, TooManyBranches}
 
 -- what there are too many of
 abbrev pub counted_word : Counted → List ℕ

@@ -5,9 +5,9 @@
 --     with_room at s one budgets   the script with an item that there is room for, or the same
 use Rattle.std.specs.Prelude.{ℕ, ◌+◌, ◌&&◌, not, nat_le, nat_lt, if◌then◌else◌, List, [], ◌∷◌, ◌++◌, Ok, Err, length}
 use Rattle.std.specs.declared.result.Result.{Result}
-use Rattle.rif_terms.specs.declared.limits.TheConstants.{MOST_CLIENTS, MOST_BUDGETS, MOST_ITEMS}
-use Rattle.rif_terms.specs.declared.refusal.Refusal.{Refusal}
-use Rattle.rif_terms.specs.declared.refusal.Refusal.TheVariants.{BudgetTooLarge, TooManyClients, TooManyItems}
+use Rattle.rif_refusals.specs.declared.limits.TheConstants.{MOST_CLIENTS, MOST_BUDGETS, MOST_ITEMS}
+use Rattle.rif_refusals.specs.declared.refusal.Refusal.{Refusal}
+use Rattle.rif_refusals.specs.declared.refusal.Refusal.TheVariants.{BudgetTooLarge, TooManyClients, TooManyItems}
 use Rattle.prd_reader.specs.Values.{has_name, place_of, with_name}
 use Rattle.session_states.specs.declared.item.Item.{Item}
 use Rattle.rif_script.specs.declared.script.Script.{Script}

@@ -7,24 +7,24 @@
 -- Source: the project's own (docs/FORMATS.md, "What `run` evaluates").
 use Rattle.std.specs.Prelude.{ℕ, ◌==◌, ◌&&◌, ◌||◌, not, Bool, true, false, List, [], ◌∷◌, Option, Some, None}
 use Rattle.std.specs.List.{flat_map, list_all, list_any}
-use Rattle.rif_terms.specs.declared.change.Change.TheVariants.{Assert, Retract, RetractSlot, RetractObject, Modify}
-use Rattle.rif_terms.specs.declared.rule.Action.{Action}
-use Rattle.rif_terms.specs.declared.rule.Action.TheVariants.{Assert as AssertAction, Retract as RetractAction}
-use Rattle.rif_terms.specs.declared.rule.Action.TheVariants.{RetractSlot as RetractSlotAction}
-use Rattle.rif_terms.specs.declared.rule.Action.TheVariants.{RetractObject as RetractObjectAction}
-use Rattle.rif_terms.specs.declared.rule.Action.TheVariants.{Modify as ModifyAction}
-use Rattle.rif_terms.specs.declared.rule.Rule.{Rule}
-use Rattle.rif_terms.specs.declared.rule.Target.{Target}
-use Rattle.rif_terms.specs.declared.rule.Target.TheVariants.{Atom as AtomTarget, Frame as FrameTarget}
-use Rattle.rif_terms.specs.declared.rule.Target.TheVariants.{Member as MemberTarget}
-use Rattle.rif_terms.specs.declared.tree.Formula.{Formula}
-use Rattle.rif_terms.specs.declared.tree.Formula.TheOpen.{Formula-F, And, Or, Not, Exists, Equal, Member, Frame, Atom}
-use Rattle.rif_terms.specs.declared.tree.Formula.TheOpen.{Holds}
-use Rattle.rif_terms.specs.declared.tree.Formula.TheFolds.{fold-Formula}
-use Rattle.rif_terms.specs.declared.tree.Level.{Level}
-use Rattle.rif_terms.specs.declared.tree.Term.{Term}
-use Rattle.rif_terms.specs.declared.tree.Term.TheOpen.{Term-F, Const, Var, Call}
-use Rattle.rif_terms.specs.declared.tree.Term.TheFolds.{fold-Term}
+use Rattle.rif_values.specs.declared.change.Change.TheVariants.{Assert, Retract, RetractSlot, RetractObject, Modify}
+use Rattle.rif_tree.specs.declared.rule.Action.{Action}
+use Rattle.rif_tree.specs.declared.rule.Action.TheVariants.{Assert as AssertAction, Retract as RetractAction}
+use Rattle.rif_tree.specs.declared.rule.Action.TheVariants.{RetractSlot as RetractSlotAction}
+use Rattle.rif_tree.specs.declared.rule.Action.TheVariants.{RetractObject as RetractObjectAction}
+use Rattle.rif_tree.specs.declared.rule.Action.TheVariants.{Modify as ModifyAction}
+use Rattle.rif_tree.specs.declared.rule.Rule.{Rule}
+use Rattle.rif_tree.specs.declared.rule.Target.{Target}
+use Rattle.rif_tree.specs.declared.rule.Target.TheVariants.{Atom as AtomTarget, Frame as FrameTarget}
+use Rattle.rif_tree.specs.declared.rule.Target.TheVariants.{Member as MemberTarget}
+use Rattle.rif_tree.specs.declared.tree.Formula.{Formula}
+use Rattle.rif_tree.specs.declared.tree.Formula.TheOpen.{Formula-F, And, Or, Not, Exists, Equal, Member, Frame, Atom}
+use Rattle.rif_tree.specs.declared.tree.Formula.TheOpen.{Holds}
+use Rattle.rif_tree.specs.declared.tree.Formula.TheFolds.{fold-Formula}
+use Rattle.rif_tree.specs.declared.tree.Level.{Level}
+use Rattle.rif_tree.specs.declared.tree.Term.{Term}
+use Rattle.rif_tree.specs.declared.tree.Term.TheOpen.{Term-F, Const, Var, Call}
+use Rattle.rif_tree.specs.declared.tree.Term.TheFolds.{fold-Term}
 use Rattle.session_states.specs.declared.item.Item.{Item}
 use Rattle.session_states.specs.declared.item.Item.TheVariants.{Change, Fire, Until, Halt, Dispose}
 use Rattle.rif_script.specs.declared.job.Job.{Job}

@@ -7,13 +7,13 @@ use Rattle.std.specs.Prelude.{suc, ℕ, ◌-◌, Bool, true, false, List, [], �
 use Rattle.std.specs.Prelude.{decimal, length, slice_get}
 use Rattle.std.specs.List.{flat_map}
 use Rattle.std.specs.declared.option.Option.{Option}
-use Rattle.rif_terms.specs.declared.constant.Const.{Const}
-use Rattle.rif_terms.specs.declared.fact.Fact.{Fact}
-use Rattle.rif_terms.specs.declared.instance.Instance.{Instance}
-use Rattle.rif_terms.specs.declared.rule.Doc.{Doc}
-use Rattle.rif_terms.specs.declared.rule.Rule.{Rule}
-use Rattle.rif_terms.specs.Bindings.{value_at}
-use Rattle.rif_terms.specs.Writing.{const_text, fact_text}
+use Rattle.rif_values.specs.declared.constant.Const.{Const}
+use Rattle.rif_values.specs.declared.fact.Fact.{Fact}
+use Rattle.rif_values.specs.declared.instance.Instance.{Instance}
+use Rattle.rif_tree.specs.declared.rule.Doc.{Doc}
+use Rattle.rif_tree.specs.declared.rule.Rule.{Rule}
+use Rattle.rif_values.specs.Bindings.{value_at}
+use Rattle.rif_values.specs.Writing.{const_text, fact_text}
 use Rattle.session_states.specs.declared.item.Entry.{Entry}
 use Rattle.session_states.specs.declared.turn.Act.{Act}
 use Rattle.session_states.specs.declared.turn.Act.TheVariants.{Idle, Halted, Disposed, Fired, StoppedQuiet}

@@ -7,7 +7,7 @@ ghost use Rattle.rif_script.specs.SentLeaves.{Gives, seen, with_seen};
 use crate::line_fault::LineFault;
 use crate::sent_tokens::SentTokens;
 use prd_reader::{Keyword, Leaf, Literal, TextPool};
-use rif_terms::{Const, Integer, Listed, Text};
+use rif_values::{Const, Integer, Listed, Text};
 
 /// The constant at the front, and the tokens behind it.
 #[tactic(auto, unfolding(crate::specs::ReadingItems::const_from))]

@@ -1,12 +1,12 @@
 //! The batches of a job for one thread.
 ghost use Rattle.std.specs.Prelude.{◌≡◌, ◌≤◌, ◌<◌, All, IfOk, [], drop, length, take};
-ghost use Rattle.rif_terms.specs.declared.limits.TheConstants.{MOST_BATCH_ITEMS};
+ghost use Rattle.rif_refusals.specs.declared.limits.TheConstants.{MOST_BATCH_ITEMS};
 ghost use Rattle.rif_script.specs.Cutting.{HasItsClients, script_entries, is_control, ends_behind, served_count};
 ghost use Rattle.rif_script.specs.Cutting.{batches_behind, batches_of_entries, left_of_entries};
 
 use crate::job::Job;
-use rif_terms::limits::MOST_BATCH_ITEMS;
-use rif_terms::{Listed, OutOfMemory};
+use rif_refusals::limits::MOST_BATCH_ITEMS;
+use rif_values::{Listed, OutOfMemory};
 use session_states::{Batch, Entry, Item};
 use std::alloc::Global;
 use std::mem;

@@ -8,7 +8,7 @@ use crate::constants::{read_const, read_consts};
 use crate::line_fault::LineFault;
 use crate::sent_tokens::SentTokens;
 use prd_reader::{Leaf, TextPool};
-use rif_terms::{Const, Fact};
+use rif_values::{Const, Fact};
 
 /// The fact that all the tokens are.
 #[tactic(auto, unfolding(crate::specs::ReadingItems::fact_from))]

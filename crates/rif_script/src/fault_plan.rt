@@ -1,7 +1,7 @@
 ghost use Rattle.std.specs.Prelude.{◌≡◌, ◌-◌, ◌<◌, ◌^◌, [], ◌∷◌};
 
 use crate::failed::Failed;
-use rif_terms::Listed;
+use rif_values::Listed;
 
 /// Which calls on a form in memory fail, and what was counted of them.
 #[derive(Drop)]

@@ -10,7 +10,7 @@ use crate::facts::{fact_behind, read_fact};
 use crate::line_fault::LineFault;
 use crate::sent_tokens::SentTokens;
 use prd_reader::{Leaf, TextPool};
-use rif_terms::{Change, Const, Fact};
+use rif_values::{Change, Const, Fact};
 use session_states::Item;
 
 /// The item of a word and the tokens behind it.

@@ -7,8 +7,10 @@ use crate::document_part::parts_of;
 use crate::script::{Script, read_script};
 use prd_reader::{Prefixes, read_parts};
 use rif_lex::tokens;
-use rif_terms::limits::MOST_INPUT_BYTES;
-use rif_terms::{Doc, Fault, Listed, Refusal, Text};
+use rif_refusals::limits::MOST_INPUT_BYTES;
+use rif_refusals::{Fault, Refusal};
+use rif_tree::Doc;
+use rif_values::{Listed, Text};
 use session_states::Item;
 use std::alloc::Global;
 

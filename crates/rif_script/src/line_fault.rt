@@ -1,4 +1,4 @@
-use rif_terms::OutOfMemory;
+use rif_values::OutOfMemory;
 
 /// Why a line of a script gives no item.
 #[derive(Clone, Copy, Debug)]

@@ -4,7 +4,7 @@ ghost use Rattle.std.specs.List.{flat_map};
 ghost use Rattle.rif_script.specs.Lines.{name_at, change_text, item_text, entry_text, entry_line};
 
 use itoa::Buffer;
-use rif_terms::{Change, Const, OutOfMemory, Text, push_const, push_fact};
+use rif_values::{Change, Const, OutOfMemory, Text, push_const, push_fact};
 use session_states::{Entry, Item};
 
 /// Appends one line for each entry: the word, the client's name and the item. After want of memory a part

@@ -7,7 +7,7 @@ ghost use Rattle.rif_script.specs.InMemory.{fresh_plan, give_answer, sink_after}
 use crate::failed::Failed;
 use crate::fault_plan::FaultPlan;
 use crate::sink::Sink;
-use rif_terms::OutOfMemory;
+use rif_values::OutOfMemory;
 use std::alloc::Global;
 use std::marker::Model;
 

@@ -2,7 +2,8 @@ ghost use Rattle.std.specs.Prelude.{◌≡◌, ◌++◌, IfOk, OnOk, OnErr, deci
 ghost use Rattle.rif_script.specs.RefusalLine.{counted_word, place_text, variable_text, refusal_fields, refusal_line};
 
 use itoa::Buffer;
-use rif_terms::{Counted, OutOfMemory, Refusal, Text};
+use rif_refusals::{Counted, Refusal};
+use rif_values::{OutOfMemory, Text};
 use std::alloc::Global;
 
 /// Puts the line of a refused input at the end of `out`, with its line feed: `refused`, the refusal's

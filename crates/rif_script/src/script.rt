@@ -1,6 +1,6 @@
 //! A script: the clients and the items that its lines give.
 ghost use Rattle.std.specs.Prelude.{◌≡◌, ◌<◌, ◌≤◌, ◌^◌, ◌+◌, ◌++◌, ◌∷◌, [], IfOk, IsUtf8, length};
-ghost use Rattle.rif_terms.specs.declared.limits.TheConstants.{MOST_CLIENTS};
+ghost use Rattle.rif_refusals.specs.declared.limits.TheConstants.{MOST_CLIENTS};
 ghost use Rattle.rif_lex.specs.Lexing.{Answers};
 ghost use Rattle.prd_reader.specs.Values.{place_of};
 ghost use Rattle.rif_script.specs.Jobs.{budget_of, lines_of};
@@ -11,8 +11,9 @@ use crate::document_part::first_line;
 use crate::script_line::{Line, read_line};
 use prd_reader::{Prefixes, TextPool};
 use rif_lex::Token;
-use rif_terms::limits::{MOST_BUDGETS, MOST_CLIENTS, MOST_ITEMS};
-use rif_terms::{Fault, Listed, OutOfMemory, Refusal, Text};
+use rif_refusals::limits::{MOST_BUDGETS, MOST_CLIENTS, MOST_ITEMS};
+use rif_refusals::{Fault, Refusal};
+use rif_values::{Listed, OutOfMemory, Text};
 use session_states::Item;
 use std::alloc::Global;
 
@@ -59,7 +60,7 @@ pub fn read_script(
 
 impl Script {
     ghost use Rattle.std.specs.Prelude.{◌≤◌, IfOk, IsUtf8, length};
-    ghost use Rattle.rif_terms.specs.declared.limits.TheConstants.{MOST_CLIENTS};
+    ghost use Rattle.rif_refusals.specs.declared.limits.TheConstants.{MOST_CLIENTS};
     ghost use Rattle.rif_lex.specs.Lexing.{Answers};
     ghost use Rattle.rif_script.specs.ReadingLines.{with_line, with_sent};
     ghost use Rattle.rif_script.specs.ScriptSteps.{room_for, with_room};

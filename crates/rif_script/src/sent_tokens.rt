@@ -6,7 +6,7 @@ use crate::line_fault::LineFault;
 use crate::signs::{behind_arrow, behind_close_square};
 use prd_reader::{Behind, Leaf, Prefixes, TextPool, leaf_at};
 use rif_lex::Token;
-use rif_terms::OutOfMemory;
+use rif_values::OutOfMemory;
 
 /// What is left to read of a line: its tokens from a place on, with the prefixes of the document.
 #[derive(Clone, Copy)]

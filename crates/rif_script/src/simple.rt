@@ -6,7 +6,8 @@ ghost use Rattle.rif_script.specs.Simple.{is_simple_item, is_simple_job, is_simp
 
 use crate::job::Job;
 use crate::simple_rule::is_simple_rule;
-use rif_terms::{Change, Rule};
+use rif_tree::Rule;
+use rif_values::Change;
 use session_states::Item;
 
 /// Whether a job is one that a run can evaluate yet: its rules have conjunctions of patterns and simple

@@ -4,7 +4,7 @@ ghost use Rattle.std.specs.List.{list_all, list_any};
 ghost use Rattle.rif_script.specs.Simple.{are_plain_pairs, are_plain_terms, declared_vars, has_var, is_in_pairs};
 ghost use Rattle.rif_script.specs.Simple.{is_in_patterns, is_plain_formula, is_plain_term, is_var};
 
-use rif_terms::{Formula, Level, Term};
+use rif_tree::{Formula, Level, Term};
 
 /// Whether a variable is one of some.
 pub fn has_var(vars: &[u32], var: u32) -> bool

@@ -10,7 +10,7 @@ mod values;
 
 use crate::batches_of;
 use checks::has_its_clients;
-use rif_terms::{Listed, OutOfMemory};
+use rif_values::{Listed, OutOfMemory};
 use runs::{discount, disposed, invoice, levels_and_items, no_budget, resting, same_value};
 use session_states::Item;
 use std::alloc::Global;

@@ -2,14 +2,15 @@
 ghost use Rattle.std.specs.Prelude.{◌≡◌, ◌++◌, OnErr, OnOk, Some, codes};
 ghost use Rattle.std.specs.List.{flat_map};
 ghost use Rattle.rif_script.specs.Lines.{entry_line};
-ghost use Rattle.rif_terms.specs.Bindings.{value_at};
+ghost use Rattle.rif_values.specs.Bindings.{value_at};
 ghost use Rattle.rif_script.specs.Trace.{forall_vars, bound_text, var_text, act_word, pick_text, fact_line};
 ghost use Rattle.rif_script.specs.Trace.{effect_text, act_text, turn_text, turns_text, firing_count, end_line};
 ghost use Rattle.rif_script.specs.Trace.{run_text};
 
 use crate::job::Job;
 use crate::lines::{push_entry_lines, push_name, push_number};
-use rif_terms::{Binding, Doc, Fact, Instance, OutOfMemory, Rule, push_const, push_fact};
+use rif_tree::{Doc, Rule};
+use rif_values::{Binding, Fact, Instance, OutOfMemory, push_const, push_fact};
 use session_states::{Act, Effect, Entry, Turn};
 use std::alloc::Global;
 

@@ -3,8 +3,8 @@ ghost use Rattle.std.specs.List.{list_any};
 ghost use Rattle.session_states.specs.Batches.{ends_batch, EndsLast, IsLawful};
 
 use crate::item::{Entry, Item};
-use rif_terms::limits::MOST_BATCH_ITEMS;
-use rif_terms::{Listed, OutOfMemory};
+use rif_refusals::limits::MOST_BATCH_ITEMS;
+use rif_values::{Listed, OutOfMemory};
 use std::alloc::{AllocError, Global};
 use std::marker::Model;
 

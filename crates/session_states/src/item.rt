@@ -1,6 +1,6 @@
 ghost use Rattle.std.specs.Prelude.{◌≡◌, IfOk, IsTrue, ◌↔◌};
 
-use rif_terms::{Change, OutOfMemory};
+use rif_values::{Change, OutOfMemory};
 use std::alloc::AllocError;
 
 /// What a client sends: a change of facts, or a control item.

@@ -1,6 +1,6 @@
 //! The machine's table, which entries may be one batch, and a copy of each value.
 use crate::{Act, Batch, Effect, Entry, Item, State, Turn, after};
-use rif_terms::{Change, Const, Delta, Fact, Listed, OutOfMemory};
+use rif_values::{Change, Const, Delta, Fact, Listed, OutOfMemory};
 use std::alloc::Global;
 use std::test::Fail;
 

@@ -1,7 +1,7 @@
 ghost use Rattle.std.specs.Prelude.{◌≡◌, IfOk};
 
 use crate::batch::Batch;
-use rif_terms::{Delta, Instance, OutOfMemory};
+use rif_values::{Delta, Instance, OutOfMemory};
 use std::alloc::AllocError;
 
 /// What a session does after a batch.

@@ -9,7 +9,8 @@ use crate::building::signs::{
 };
 use crate::building::terms::{pairs, term, terms};
 use crate::leaf::Leaf;
-use rif_terms::{Action, Decl, OutOfMemory, Target, Term, Text};
+use rif_tree::{Action, Decl, Target, Term};
+use rif_values::{OutOfMemory, Text};
 use sqlite_items::Items;
 use std::alloc::Global;
 

@@ -8,7 +8,8 @@ use crate::building::signs::{
     MemberSign, member_sign, past, priority_at, priority_width, strategy_width,
 };
 use crate::leaf::Leaf;
-use rif_terms::{Doc, OutOfMemory, Rule, Text};
+use rif_tree::{Doc, Rule};
+use rif_values::{OutOfMemory, Text};
 use sqlite_items::Items;
 use std::alloc::Global;
 use std::collections::VecDeque;

@@ -8,7 +8,8 @@ use crate::building::signs::{
 };
 use crate::building::terms::{pairs, term, terms, vars};
 use crate::leaf::Leaf;
-use rif_terms::{Formula, OutOfMemory, Pred, Term, Text};
+use rif_tree::{Formula, Pred, Term};
+use rif_values::{OutOfMemory, Text};
 use sqlite_items::{Boxed, Items};
 use std::alloc::Global;
 

@@ -8,7 +8,8 @@ use crate::building::formulas::formula;
 use crate::building::signs::{begins_if, begins_such, ends_levels, ends_such, past};
 use crate::building::terms::vars;
 use crate::leaf::Leaf;
-use rif_terms::{Action, Decl, Formula, Level, OutOfMemory, Rule, Text};
+use rif_tree::{Action, Decl, Formula, Level, Rule};
+use rif_values::{OutOfMemory, Text};
 use sqlite_items::Items;
 use std::alloc::Global;
 

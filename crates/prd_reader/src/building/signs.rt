@@ -11,7 +11,8 @@ ghost use Rattle.prd_reader.specs.Signs.{const_width};
 ghost use Rattle.prd_reader.specs.Values.{literal_value, place_of};
 
 use crate::leaf::{Builtin, BuiltinName, Keyword, Leaf, Literal};
-use rif_terms::{Const, Func, Integer, OutOfMemory, Pred, Text};
+use rif_tree::{Func, Pred};
+use rif_values::{Const, Integer, OutOfMemory, Text};
 use std::alloc::Global;
 
 /// What a term begins with.

@@ -7,7 +7,8 @@ use crate::building::signs::{
     variable_at,
 };
 use crate::leaf::Leaf;
-use rif_terms::{OutOfMemory, Term, Text};
+use rif_tree::Term;
+use rif_values::{OutOfMemory, Text};
 use sqlite_items::Items;
 use std::alloc::Global;
 

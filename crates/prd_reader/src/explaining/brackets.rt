@@ -2,7 +2,7 @@
 use crate::explaining::spot::Spot;
 use itoa::Buffer;
 use rif_lex::{Kind, Token};
-use rif_terms::OutOfMemory;
+use rif_values::OutOfMemory;
 
 /// Which bracket isn't closed, where the end is found, or a closing bracket of the other kind.
 pub fn push_open_bracket(out: &mut Vec<u8>, spot: &Spot<'_>) -> Result<(), OutOfMemory> {

@@ -4,7 +4,7 @@ use crate::explaining::spot::Spot;
 use crate::leaf::{Builtin, BuiltinName, Leaf};
 use crate::signs::is_term;
 use itoa::Buffer;
-use rif_terms::OutOfMemory;
+use rif_values::OutOfMemory;
 
 // Above the number of arguments that any built-in takes.
 const TOO_MANY_ARGUMENTS: u64 = 64;

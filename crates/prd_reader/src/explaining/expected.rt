@@ -6,7 +6,7 @@ use crate::leaf::{Leaf, Literal};
 use crate::want::Want;
 use crate::wanted::words_of;
 use itoa::Buffer;
-use rif_terms::{GREATEST_INTEGER, LEAST_INTEGER, OutOfMemory};
+use rif_values::{GREATEST_INTEGER, LEAST_INTEGER, OutOfMemory};
 use std::alloc::Global;
 use std::collections::VecDeque;
 

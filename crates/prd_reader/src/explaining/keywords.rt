@@ -1,6 +1,6 @@
 //! Words that are keywords but for their case.
 use crate::excerpt::push_quoted;
-use rif_terms::OutOfMemory;
+use rif_values::OutOfMemory;
 
 // The words that the grammar spells.
 const KEYWORDS: &[&str] = &[

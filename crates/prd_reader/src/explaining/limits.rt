@@ -1,7 +1,8 @@
 //! Limits that are passed, in words.
 use itoa::Buffer;
-use rif_terms::limits::{MOST_ACTIONS, MOST_PATTERNS, MOST_RULES, MOST_VARIABLES};
-use rif_terms::{Counted, OutOfMemory};
+use rif_refusals::limits::{MOST_ACTIONS, MOST_PATTERNS, MOST_RULES, MOST_VARIABLES};
+use rif_refusals::Counted;
+use rif_values::OutOfMemory;
 
 /// How many there may be of what a document or a rule has too many of.
 pub fn push_limit(out: &mut Vec<u8>, what: Counted) -> Result<(), OutOfMemory> {

@@ -8,7 +8,7 @@ use crate::leaf::{BuiltinName, Leaf};
 use crate::prefixes::Prefixes;
 use crate::token_text::{behind_colon, inner};
 use rif_lex::Kind;
-use rif_terms::OutOfMemory;
+use rif_values::OutOfMemory;
 use std::alloc::Global;
 
 /// How a built-in's call is written, where a bracket is found behind the name of one that stands as a term.

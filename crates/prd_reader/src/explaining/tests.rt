@@ -1,7 +1,7 @@
 //! Refusals in words, table by table.
 use super::{explain, explain_line};
 use rif_lex::tokens;
-use rif_terms::{Counted, Refusal};
+use rif_refusals::{Counted, Refusal};
 use std::alloc::Global;
 use std::process::Abort;
 use std::test::Fail;

@@ -1,6 +1,6 @@
 //! What stands where no token begins, in words.
 use crate::excerpt::{before_break, is_string_closed, push_quoted};
-use rif_terms::OutOfMemory;
+use rif_values::OutOfMemory;
 
 /// What stands where no token begins.
 pub fn push_unreadable(out: &mut Vec<u8>, text: &[u8]) -> Result<(), OutOfMemory> {

@@ -12,7 +12,7 @@ use crate::following::putting::{put, put_pairs, put_three, put_two};
 use crate::following::terms::{advance_named, advance_term, advance_term_before};
 use crate::leaf::{Keyword, Leaf};
 use crate::want::Want;
-use rif_terms::{OutOfMemory, Text};
+use rif_values::{OutOfMemory, Text};
 use std::collections::VecDeque;
 
 /// Where an action may come.

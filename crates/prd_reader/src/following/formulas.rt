@@ -8,7 +8,7 @@ use crate::following::putting::{put, put_pairs, put_three, put_two};
 use crate::following::terms::advance_named;
 use crate::leaf::{Builtin, BuiltinName, Keyword, Leaf};
 use crate::want::Want;
-use rif_terms::OutOfMemory;
+use rif_values::OutOfMemory;
 use std::collections::VecDeque;
 
 /// Where a formula may come.

@@ -9,7 +9,7 @@ use crate::following::putting::{put, put_three, put_two};
 use crate::following::rules::advance_rule_before;
 use crate::leaf::{Keyword, Leaf};
 use crate::want::Want;
-use rif_terms::OutOfMemory;
+use rif_values::OutOfMemory;
 use std::collections::VecDeque;
 
 /// Where a document may come.

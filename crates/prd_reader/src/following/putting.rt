@@ -3,7 +3,7 @@ ghost use Rattle.std.specs.Prelude.{◌≡◌, ◌++◌, ◌∷◌, true, IfOk};
 ghost use Rattle.prd_reader.specs.Following.{pairs_next};
 
 use crate::want::Want;
-use rif_terms::OutOfMemory;
+use rif_values::OutOfMemory;
 use std::collections::VecDeque;
 
 /// This comes before what has still to come. The answer is true.

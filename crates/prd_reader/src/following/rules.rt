@@ -8,7 +8,7 @@ use crate::following::formulas::{advance_formula, advance_formula_before};
 use crate::following::putting::{put, put_three, put_two};
 use crate::leaf::{Keyword, Leaf};
 use crate::want::Want;
-use rif_terms::OutOfMemory;
+use rif_values::OutOfMemory;
 use std::collections::VecDeque;
 
 /// Where a rule may come.

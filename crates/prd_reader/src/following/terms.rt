@@ -7,7 +7,7 @@ ghost use Rattle.prd_reader.specs.Recognizing.{Goes};
 use crate::following::putting::{put, put_three, put_two};
 use crate::leaf::{Builtin, BuiltinName, Keyword, Leaf, Literal};
 use crate::want::Want;
-use rif_terms::OutOfMemory;
+use rif_values::OutOfMemory;
 use std::collections::VecDeque;
 
 /// Where a term may come.

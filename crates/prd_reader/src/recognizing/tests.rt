@@ -2,7 +2,9 @@
 use crate::cause::Cause;
 use crate::leaf::{Builtin, BuiltinName, Keyword, Leaf};
 use crate::recognizing::{Outcome, recognize};
-use rif_terms::{Counted, Func, OutOfMemory, Text};
+use rif_refusals::Counted;
+use rif_tree::Func;
+use rif_values::{OutOfMemory, Text};
 use std::alloc::Global;
 use std::test::Fail;
 

@@ -1,6 +1,8 @@
 use crate::{Behind, Builtin, BuiltinName, Leaf, Literal, Prefixes, TextPool, leaf_at};
 use rif_lex::tokens;
-use rif_terms::{Fault, Func, Text};
+use rif_refusals::Fault;
+use rif_tree::Func;
+use rif_values::Text;
 use std::alloc::{AllocError, Global};
 use std::process::Abort;
 use std::test::Fail;

@@ -1,5 +1,5 @@
 use super::read;
-use rif_terms::{Counted, Fault, Refusal};
+use rif_refusals::{Counted, Fault, Refusal};
 use std::alloc::{AllocError, Global};
 use std::test::Fail;
 

@@ -1,6 +1,6 @@
 use crate::{Prefixes, read_parts};
 use rif_lex::tokens;
-use rif_terms::Fault;
+use rif_refusals::Fault;
 use std::alloc::{AllocError, Global};
 use std::test::Fail;
 

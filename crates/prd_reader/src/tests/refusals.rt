@@ -1,6 +1,6 @@
 use super::read;
 use crate::explaining::place_of;
-use rif_terms::Fault;
+use rif_refusals::Fault;
 use std::test::Fail;
 
 /// What is wrong, a document, and the number, the line and the column of its refusal.

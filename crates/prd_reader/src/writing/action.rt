@@ -7,7 +7,8 @@ ghost use Rattle.prd_reader.specs.Canonical.{acted_spelling, term_spelling};
 
 use crate::writing::atomic::{push_atom, push_frame, push_member};
 use crate::writing::term::{push_bytes, push_space, push_term, push_var};
-use rif_terms::{Action, Decl, OutOfMemory, Rule, Target, Term, Text};
+use rif_tree::{Action, Decl, Rule, Target, Term};
+use rif_values::{OutOfMemory, Text};
 
 fn push_target(out: &mut Vec<u8>, names: &[Text], target: &Target) -> Result<(), OutOfMemory>
     ensures { (gap : Gap) (rest : List Spelled) →

@@ -5,7 +5,8 @@ ghost use Rattle.prd_reader.specs.Canonical.{listed, const_spelling, pair_spelli
 ghost use Rattle.prd_reader.specs.Canonical.{equal_spelling, atom_spelling};
 
 use crate::writing::term::{push_bytes, push_space, push_term, push_terms};
-use rif_terms::{Const, OutOfMemory, Term, Text, push_const};
+use rif_tree::Term;
+use rif_values::{Const, OutOfMemory, Text, push_const};
 
 fn push_constant(out: &mut Vec<u8>, constant: &Const) -> Result<(), OutOfMemory>
     ensures { (gap : Gap) (rest : List Spelled) →

@@ -7,7 +7,8 @@ ghost use Rattle.prd_reader.specs.Canonical.{exists_spelling, formula_spelling};
 
 use crate::writing::atomic::{push_atom, push_equal, push_frame, push_member};
 use crate::writing::term::{push_bytes, push_space, push_terms, push_var};
-use rif_terms::{Formula, OutOfMemory, Pred, Term, Text};
+use rif_tree::{Formula, Pred, Term};
+use rif_values::{OutOfMemory, Text};
 
 // Appends the variables, each with a space behind it.
 pub fn push_vars(out: &mut Vec<u8>, names: &[Text], vars: &[u32]) -> Result<(), OutOfMemory>

@@ -11,7 +11,8 @@ use crate::writing::action::push_block;
 use crate::writing::formula::{push_formula, push_such_that, push_vars};
 use crate::writing::term::push_bytes;
 use itoa::Buffer;
-use rif_terms::{Doc, Formula, Level, OutOfMemory, Rule, Text};
+use rif_tree::{Doc, Formula, Level, Rule};
+use rif_values::{OutOfMemory, Text};
 use std::alloc::Global;
 
 /// Appends the canonical text of a document. After want of memory `out` is as before. A variable that is no place

@@ -7,7 +7,8 @@ ghost use Rattle.prd_reader.specs.Canonical.{listed, closing, const_spelling, va
 ghost use Rattle.prd_reader.specs.Canonical.{external_spelling, term_spelling, pair_spelling, frame_spelling};
 ghost use Rattle.prd_reader.specs.Canonical.{member_spelling, equal_spelling, atom_spelling};
 
-use rif_terms::{Const, Func, OutOfMemory, Pred, Term, Text, push_const};
+use rif_tree::{Func, Pred, Term};
+use rif_values::{Const, OutOfMemory, Text, push_const};
 
 // Appends the space before a member of a list, but for the first.
 pub fn push_space(out: &mut Vec<u8>, is_first: bool) -> Result<(), OutOfMemory>

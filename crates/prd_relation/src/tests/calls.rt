@@ -9,8 +9,10 @@ use super::values::{
     facts, instance, row,
 };
 use crate::{Candidate, Mark, Plain, choose_plain, priority};
-use rif_match::{Facts, list_instances, matches};
-use rif_terms::{Binding, Doc, Instance, Listed, OutOfMemory};
+use rif_facts::Facts;
+use rif_match::{list_instances, matches};
+use rif_tree::Doc;
+use rif_values::{Binding, Instance, Listed, OutOfMemory};
 use std::alloc::Global;
 use std::process::Abort;
 use std::test::Fail;

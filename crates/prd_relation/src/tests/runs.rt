@@ -9,7 +9,7 @@ use super::values::WrittenItem::{Change, Dispose, Fire, Halt, Until};
 use super::values::WrittenPattern::{Atom as IsAtom, Frame as IsFrame, Member as IsMember};
 use super::values::{Shown, WrittenItem, WrittenRule, batches, doc};
 use crate::{PlainRun, replay_plain};
-use rif_terms::{Listed, OutOfMemory};
+use rif_values::{Listed, OutOfMemory};
 use session_states::{Act, Batch, Turn};
 use std::alloc::Global;
 use std::process::Abort;

@@ -1,9 +1,7 @@
 //! Values for the tests: written down without memory, and made of what was written. A rule's variables
 //! are places, and where a name stands alone it is that of a local constant.
-use rif_terms::{
-    Action, Binding, Change, Const, Decl, Delta, Doc, Fact, Formula, Instance, Level, Listed,
-    OutOfMemory, Rule, Target, Term, Text,
-};
+use rif_tree::{Action, Decl, Doc, Formula, Level, Rule, Target, Term};
+use rif_values::{Binding, Change, Const, Delta, Fact, Instance, Listed, OutOfMemory, Text};
 use session_states::{Act, Batch, Effect, Entry, Item, Turn};
 use sqlite_items::{Boxed, Items};
 use std::alloc::Global;

@@ -3,7 +3,8 @@ ghost use Rattle.rif_script.specs.Cutting.{HasItsClients};
 
 use crate::lines::push_entry_lines;
 use crate::{Job, batches_of, read_job, write_refusal};
-use rif_terms::{Fault, OutOfMemory};
+use rif_refusals::Fault;
+use rif_values::OutOfMemory;
 use std::alloc::{AllocError, Global};
 use std::process::Abort;
 use std::test::Fail;

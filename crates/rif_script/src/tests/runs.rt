@@ -7,7 +7,7 @@ use super::values::WrittenItem::{
 };
 use super::values::{Shown, WrittenItem, items, job};
 use crate::{batches_of, write_run};
-use rif_terms::{Listed, OutOfMemory};
+use rif_values::{Listed, OutOfMemory};
 use session_states::{Act, Batch, Turn};
 use std::alloc::Global;
 use std::process::Abort;

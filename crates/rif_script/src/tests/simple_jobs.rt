@@ -1,7 +1,7 @@
 //! Which jobs a run can evaluate yet.
 use super::outcomes::job_with;
 use crate::{read_job, simple_job};
-use rif_terms::Fault;
+use rif_refusals::Fault;
 use std::alloc::Global;
 use std::test::Fail;
 

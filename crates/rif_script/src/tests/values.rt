@@ -1,8 +1,7 @@
 //! Values for the tests: written down without memory, and made of what was written.
 use crate::Job;
-use rif_terms::{
-    Binding, Change, Const, Delta, Doc, Fact, Instance, Level, Listed, OutOfMemory, Rule, Text,
-};
+use rif_tree::{Doc, Level, Rule};
+use rif_values::{Binding, Change, Const, Delta, Fact, Instance, Listed, OutOfMemory, Text};
 use session_states::{Act, Batch, Effect, Item, Turn};
 use sqlite_items::Items;
 use std::alloc::Global;

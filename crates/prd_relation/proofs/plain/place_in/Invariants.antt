@@ -1,6 +1,6 @@
 use Rattle.std.proofs.Common.{◌≡◌, drop}
-use Rattle.rif_terms.specs.InstanceOrder.{instance_cmp}
-use Rattle.rif_terms.specs.Sets.{has}
+use Rattle.rif_values.specs.InstanceOrder.{instance_cmp}
+use Rattle.rif_values.specs.Sets.{has}
 use Rattle.prd_relation.proofs.plain.place_in.Given as goal
 
 abbrev pub invariant-loop-place : goal.invariant-loop-place

@@ -1,5 +1,5 @@
 use Rattle.std.proofs.Common.{◌≡◌, take, drop, map, filter, flat_map, length, ◌==◌, [], ◌∷◌}
-use Rattle.rif_match.specs.Extensions.{in_turn, through}
+use Rattle.rif_builtins.specs.Extensions.{in_turn, through}
 use Rattle.rif_match.proofs.extending.+through.Given as goal
 
 abbrev pub invariant-rows_through_each-loop-member : goal.invariant-rows_through_each-loop-member

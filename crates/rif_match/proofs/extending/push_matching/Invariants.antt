@@ -1,5 +1,5 @@
 use Rattle.std.proofs.Common.{◌≡◌, ◌++◌, take, filter_map}
-use Rattle.rif_match.specs.Extensions.{match_fact}
+use Rattle.rif_builtins.specs.Extensions.{match_fact}
 use Rattle.rif_match.proofs.extending.push_matching.Given as goal
 
 abbrev pub invariant-loop-fact : goal.invariant-loop-fact

@@ -1,5 +1,5 @@
 use Rattle.std.proofs.Common.{◌≡◌, take, filter_map}
-use Rattle.rif_match.specs.Extensions.{equal_row}
+use Rattle.rif_builtins.specs.Extensions.{equal_row}
 use Rattle.rif_match.proofs.extending.rows_equating.Given as goal
 
 abbrev pub invariant-loop-row : goal.invariant-loop-row

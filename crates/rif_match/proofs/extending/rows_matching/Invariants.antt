@@ -1,5 +1,5 @@
 use Rattle.std.proofs.Common.{◌≡◌, take}
-use Rattle.rif_match.specs.Extensions.{matched}
+use Rattle.rif_builtins.specs.Extensions.{matched}
 use Rattle.rif_match.proofs.extending.rows_matching.Given as goal
 
 abbrev pub invariant-loop-row : goal.invariant-loop-row

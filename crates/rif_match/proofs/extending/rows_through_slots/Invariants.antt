@@ -1,5 +1,5 @@
 use Rattle.std.proofs.Common.{◌≡◌, drop, map}
-use Rattle.rif_match.specs.Extensions.{in_turn, matched, slots_of}
+use Rattle.rif_builtins.specs.Extensions.{in_turn, matched, slots_of}
 use Rattle.rif_match.proofs.extending.rows_through_slots.Given as goal
 
 abbrev pub invariant-loop-pair : goal.invariant-loop-pair

@@ -1,6 +1,6 @@
 use Rattle.std.proofs.Common.{◌≡◌, take, filter}
-use Rattle.rif_match.specs.Extensions.{holds_at}
-use Rattle.rif_match.specs.Values.{values_of}
+use Rattle.rif_builtins.specs.Extensions.{holds_at}
+use Rattle.rif_builtins.specs.Values.{values_of}
 use Rattle.rif_match.proofs.extending.rows_where.Given as goal
 
 abbrev pub invariant-loop-row : goal.invariant-loop-row

@@ -1,8 +1,8 @@
 use Rattle.std.proofs.Common.{◌∙◌, ◌<◌, ◌++◌, ℕ, suc, ◌+◌, List, length, get_or, map, drop, ap, sym, subst}
-use Rattle.rif_terms.specs.declared.fact.Fact.{Fact}
-use Rattle.rif_terms.specs.declared.instance.Instance.{Instance}
-use Rattle.rif_terms.specs.declared.rule.Rule.{Rule}
-use Rattle.rif_match.specs.Values.{Row}
+use Rattle.rif_values.specs.declared.fact.Fact.{Fact}
+use Rattle.rif_values.specs.declared.instance.Instance.{Instance}
+use Rattle.rif_tree.specs.declared.rule.Rule.{Rule}
+use Rattle.rif_values.specs.Bindings.{Row}
 use Rattle.rif_match.specs.ConflictSet.{rows_of, instance_of, instances_from}
 use Rattle.rif_match.proofs.ListingLemmas.{rule_step}
 use Rattle.rif_match.proofs.listing.list_instances.Goals as goal

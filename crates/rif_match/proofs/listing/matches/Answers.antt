@@ -1,7 +1,7 @@
 use Rattle.std.proofs.Common.{◌≡◌, ◌∙◌, List, [], ◌∷◌, ◌++◌, ap}
-use Rattle.rif_terms.specs.declared.fact.Fact.{Fact}
-use Rattle.rif_match.specs.Values.{Row}
-use Rattle.rif_match.specs.Extensions.{through}
+use Rattle.rif_values.specs.declared.fact.Fact.{Fact}
+use Rattle.rif_values.specs.Bindings.{Row}
+use Rattle.rif_builtins.specs.Extensions.{through}
 use Rattle.rif_match.proofs.ListingLemmas.{ordered_rows}
 use Rattle.rif_match.proofs.listing.matches.Goals as goal
 

@@ -1,9 +1,9 @@
 use Rattle.std.proofs.Common.{◌≡◌, ◌∙◌, List, [], ◌∷◌, ◌++◌, map, ap, sym}
 use Rattle.std.specs.List.{flat_map}
 use Rattle.std.specs.Option.{option_to_list}
-use Rattle.rif_terms.specs.declared.tree.Level.{Level}
-use Rattle.rif_match.specs.Values.{Row}
-use Rattle.rif_match.specs.Extensions.{in_turn, through}
+use Rattle.rif_tree.specs.declared.tree.Level.{Level}
+use Rattle.rif_values.specs.Bindings.{Row}
+use Rattle.rif_builtins.specs.Extensions.{in_turn, through}
 use Rattle.rif_match.specs.ConflictSet.{condition_of}
 use Rattle.rif_match.proofs.ListingLemmas.{in_turn_both, ordered_rows}
 use Rattle.rif_match.proofs.listing.rows_satisfying.Goals as goal

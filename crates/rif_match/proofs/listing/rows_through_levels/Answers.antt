@@ -1,7 +1,7 @@
 use Rattle.std.proofs.Common.{◌∙◌, map, drop, ◌+◌, ap, sym}
 use Rattle.std.specs.List.{flat_map}
-use Rattle.rif_terms.specs.declared.tree.Level.{Level}
-use Rattle.rif_match.specs.Extensions.{in_turn, through}
+use Rattle.rif_tree.specs.declared.tree.Level.{Level}
+use Rattle.rif_builtins.specs.Extensions.{in_turn, through}
 use Rattle.rif_match.proofs.ListingLemmas.{level_step}
 use Rattle.rif_match.proofs.listing.rows_through_levels.Goals as goal
 

@@ -1,5 +1,5 @@
 use Rattle.std.proofs.Common.{◌≡◌, drop, map, flat_map}
-use Rattle.rif_match.specs.Extensions.{in_turn, through}
+use Rattle.rif_builtins.specs.Extensions.{in_turn, through}
 use Rattle.rif_match.proofs.listing.rows_through_levels.Given as goal
 
 abbrev pub invariant-loop-level : goal.invariant-loop-level

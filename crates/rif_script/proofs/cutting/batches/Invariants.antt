@@ -1,6 +1,6 @@
 use Rattle.std.proofs.Common.{◌≡◌, ◌<◌, length}
 use Rattle.std.specs.Vec.Iter.{into_iter_items, into_iter_len}
-use Rattle.rif_terms.specs.declared.limits.TheConstants.{MOST_BATCH_ITEMS}
+use Rattle.rif_refusals.specs.declared.limits.TheConstants.{MOST_BATCH_ITEMS}
 use Rattle.rif_script.specs.Cutting.{batches_behind}
 use Rattle.rif_script.proofs.CuttingLemmas.{AreChanges, batches_after}
 use Rattle.rif_script.proofs.cutting.batches.Given as goal

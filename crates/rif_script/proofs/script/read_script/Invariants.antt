@@ -1,5 +1,5 @@
 use Rattle.std.proofs.Common.{◌≡◌, ◌+◌, ◌<◌, ◌≤◌, ◌^◌, length}
-use Rattle.rif_terms.specs.declared.limits.TheConstants.{MOST_CLIENTS}
+use Rattle.rif_refusals.specs.declared.limits.TheConstants.{MOST_CLIENTS}
 use Rattle.rif_script.specs.Jobs.{lines_of}
 use Rattle.rif_script.specs.ReadingLines.{no_lines, with_lines}
 use Rattle.rif_script.proofs.script.read_script.Given as goal

@@ -1,7 +1,7 @@
 use Rattle.std.proofs.Common.{rules, tests, ◌∙◌}
 use Rattle.std.proofs.lemmas.Iterator.{YieldsList-from_slice}
 use Rattle.std.proofs.lemmas.Iterator.Search.{any_from_yields_List}
-use Rattle.rif_terms.specs.declared.tree.Level.{Level}
+use Rattle.rif_tree.specs.declared.tree.Level.{Level}
 use Rattle.rif_script.specs.Simple.{has_var}
 use Rattle.rif_script.proofs.SimpleLemmas.{declared_var}
 use Rattle.rif_script.proofs.simple_formula.declares.Goals as goal

@@ -1,6 +1,6 @@
 use Rattle.std.proofs.Common.{refl, ◌≡◌, sym, ◌∙◌, ap, Some, drop, List}
-use Rattle.rif_terms.specs.declared.tree.Formula.{Formula}
-use Rattle.rif_terms.specs.declared.tree.Formula.TheVariants.{And, Or}
+use Rattle.rif_tree.specs.declared.tree.Formula.{Formula}
+use Rattle.rif_tree.specs.declared.tree.Formula.TheVariants.{And, Or}
 use Rattle.prd_reader.specs.declared.leaf.Leaf.{Leaf}
 use Rattle.prd_reader.specs.declared.building.signs.FormulaSign.TheVariants.{And as AndSign, Or as OrSign}
 use Rattle.prd_reader.specs.Signs.{closes, formula_sign}

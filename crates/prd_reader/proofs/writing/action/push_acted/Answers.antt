@@ -1,6 +1,6 @@
 use Rattle.std.proofs.Common.{◌++◌, ◌∙◌, sym, ap}
 use Rattle.rif_lex.specs.Spelling.{spelled_text, joined}
-use Rattle.rif_terms.specs.declared.rule.Action.{Action}
+use Rattle.rif_tree.specs.declared.rule.Action.{Action}
 use Rattle.prd_reader.specs.Canonical.{acted_spelling}
 use Rattle.prd_reader.proofs.writing.action.push_acted.Goals as goal
 

@@ -1,6 +1,6 @@
 use Rattle.std.proofs.Common.{◌∙◌, false, List, map, length, slice_get, ap, sym, arith}
 use Rattle.std.proofs.lemmas.List.{length-reverse}
-use Rattle.rif_terms.specs.declared.instance.Instance.{Instance}
+use Rattle.rif_values.specs.declared.instance.Instance.{Instance}
 use Rattle.prd_relation.specs.declared.mark.Mark.{Mark}
 use Rattle.prd_relation.specs.declared.moment.Moment.{Moment}
 use Rattle.prd_relation.specs.History.{newest_conflict_set}

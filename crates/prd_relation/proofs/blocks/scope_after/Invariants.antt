@@ -1,9 +1,0 @@
-use Rattle.std.proofs.Common.{◌≡◌, ◌≤◌, ◌^◌, drop}
-use Rattle.prd_relation.specs.Blocks.{after_decls}
-use Rattle.prd_relation.proofs.blocks.scope_after.Given as goal
-
-abbrev pub invariant-loop-decl : goal.invariant-loop-decl
-invariant-loop-decl l = record {
-  so_far : after_decls l.facts (drop l.decl-index l.decls) l.scope ≡ after_decls l.facts l.decls l.fn.start;
-  made : l.scope.made ≤ 2 ^ 63;
-}

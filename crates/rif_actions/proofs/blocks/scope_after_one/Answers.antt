@@ -1,0 +1,18 @@
+use Rattle.std.proofs.Common.{◌≡◌, List, Result, Ok, Err, IfOk}
+use Rattle.rif_values.specs.declared.fact.Fact.{Fact}
+use Rattle.rif_tree.specs.declared.rule.Decl.TheVariants.{New}
+use Rattle.rif_actions.specs.Blocks.{after_decl}
+use Rattle.rif_actions.proofs.blocks.scope_after_one.Goals as goal
+
+-- what holds of all facts holds of some
+at_facts : {A E : Type 0} (f : List Fact → A) (r : Result A E) (w : List Fact)
+    → IfOk r (λ found. (v : List Fact) → found ≡ f v)
+    → IfOk r (λ found. found ≡ f w)
+at_facts f (Ok found) w all = all w
+at_facts f (Err error) w all = all
+
+pub returns-in-New-clause-scope : goal.returns-in-New-clause-scope
+returns-in-New-clause-scope c =
+    rw c.in-New.is (at_facts (λ w. after_decl w (New c.in-New.var) c.args.scope.now) c.scope_with_object.result
+    c.args.facts.now
+    c.scope_with_object.ensures.scope)

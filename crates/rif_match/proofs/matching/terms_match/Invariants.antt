@@ -1,7 +1,0 @@
-use Rattle.std.proofs.Common.{◌≡◌, drop}
-use Rattle.rif_match.specs.Extensions.{match_terms}
-use Rattle.rif_match.proofs.matching.terms_match.Given as goal
-
-abbrev pub invariant-loop-place : goal.invariant-loop-place
-invariant-loop-place l =
-    match_terms (drop l.place l.terms) l.longer (drop l.place l.constants) ≡ match_terms l.terms l.fn.row l.constants

@@ -1,6 +1,0 @@
-use Rattle.std.proofs.Common.{◌≡◌, take}
-use Rattle.rif_match.specs.Extensions.{without_variables}
-use Rattle.rif_match.proofs.values.shorter.Given as goal
-
-abbrev pub invariant-loop-pair : goal.invariant-loop-pair
-invariant-loop-pair l = l.items.items ≡ without_variables l.vars (take l.pair-index l.pairs)

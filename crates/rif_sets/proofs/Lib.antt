@@ -1,0 +1,5 @@
+pub mod SetsChanges
+pub mod SetsMembers
+pub mod SetsSearch
+pub mod SetsSorted
+pub mod SetsSteps

@@ -1,6 +1,0 @@
-use Rattle.std.proofs.Common.{◌≡◌, drop}
-use Rattle.rif_terms.specs.Bindings.{value_at}
-use Rattle.rif_terms.proofs.binding.Binding.get.Given as goal
-
-abbrev pub invariant-loop-pair : goal.invariant-loop-pair
-invariant-loop-pair l = value_at (drop l.pair-index l.pair-items) l.var ≡ value_at l.pair-items l.var

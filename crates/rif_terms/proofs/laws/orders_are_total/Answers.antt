@@ -1,5 +1,0 @@
-use Rattle.rif_terms.proofs.OrderLemmas.{are_total}
-use Rattle.rif_terms.proofs.laws.orders_are_total.Goals as goal
-
-pub returns : goal.returns
-returns c = are_total

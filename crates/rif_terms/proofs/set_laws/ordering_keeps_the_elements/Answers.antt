@@ -1,5 +1,0 @@
-use Rattle.rif_terms.proofs.SetsMembers.{has_ordered, set_ordered}
-use Rattle.rif_terms.proofs.set_laws.ordering_keeps_the_elements.Goals as goal
-
-pub returns : goal.returns
-returns g c = λ exact xs. (set_ordered g.met.K.Ord.total exact xs, has_ordered g.met.K.Ord.total exact xs)

@@ -1,5 +1,0 @@
-use Rattle.rif_terms.proofs.SetsChanges.{both_net}
-use Rattle.rif_terms.proofs.set_laws.two_changes_make_one.Goals as goal
-
-pub returns : goal.returns
-returns g c = both_net g.met.K.Ord.total

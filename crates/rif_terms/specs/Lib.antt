@@ -1,9 +1,0 @@
-pub mod Bindings
-pub mod Facts
-pub mod InstanceOrder
-pub mod Order
-pub mod OrderLaws
-pub mod Refusals
-pub mod SetLaws
-pub mod Sets
-pub mod Writing

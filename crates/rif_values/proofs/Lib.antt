@@ -1,0 +1,4 @@
+pub mod BoundLemmas
+pub mod ExactLemmas
+pub mod GatheringLemmas
+pub mod OrderLemmas

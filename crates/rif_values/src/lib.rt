@@ -1,0 +1,45 @@
+//! The values that every layer speaks of: texts, constants, facts, bindings, instances and changes.
+//!
+//! | File | Has | Its words |
+//! |---|---|---|
+//! | `text.rt` | `Text`, a name or string that is copied in constant time | |
+//! | `listed.rt` | `Listed`, a list that contracts see as one | |
+//! | `integer.rt` | `Integer`, the type and range of integers | |
+//! | `constant.rt`, `fact.rt` | `Const`, `Fact`: a fact is made here | `specs/Order.antt` |
+//! | `binding.rt`, `instance.rt` | `Binding`, `Instance`: a rule with the values of its variables | `specs/Bindings.antt`, `specs/InstanceOrder.antt` |
+//! | `rows.rt` | rows with more variables, and with fewer | `specs/Bindings.antt` |
+//! | `change.rt` | `Change`, `Delta`, `RowDelta`: changes and net changes | `specs/Facts.antt` |
+//! | `writing.rt` | constants and facts as text | `specs/Writing.antt` |
+//! | `laws.rt` | laws of the orders | `specs/OrderLaws.antt` |
+//! | `out_of_memory.rt` | `OutOfMemory`, the one answer that is free | |
+//!
+//! Sets as ordered lists are defined in `specs/Sets.antt`.
+//!
+//! Begin at `Const` and `Fact`.
+#![tactic(auto)]
+
+mod binding;
+mod change;
+mod constant;
+mod fact;
+mod instance;
+mod integer;
+mod laws;
+mod listed;
+mod out_of_memory;
+mod rows;
+mod text;
+mod writing;
+
+pub use binding::Binding;
+pub use change::{Change, Delta, RowDelta};
+pub use constant::{Const, are_same};
+pub use fact::Fact;
+pub use instance::Instance;
+pub use integer::{GREATEST_INTEGER, Integer, LEAST_INTEGER};
+pub use laws::{derived_orders_are_the_stated_ones, orders_are_total, orders_tell_all_apart};
+pub use listed::Listed;
+pub use out_of_memory::OutOfMemory;
+pub use rows::{pairs_with, row_without, with_variable};
+pub use text::Text;
+pub use writing::{push_const, push_fact, write_const, write_fact};
