@@ -3,7 +3,7 @@
 //! | File | Has | Its words |
 //! |---|---|---|
 //! | `tree.rt` | `Term`, `Formula`, `Level` | |
-//! | `rule.rt` | `Rule`, `Doc`, and what a rule's block has: a rule is a `Rule` | |
+//! | `rule.rt` | `Rule`, `Doc`, and what a rule's block has: a rule is a `Rule` | `specs/Rules.antt` |
 //! | `builtin.rt` | `Func`, `Pred`: the built-ins by name | |
 //! | `copying.rt` | how a tree is copied | |
 //!

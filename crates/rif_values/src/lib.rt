@@ -4,6 +4,7 @@
 //! |---|---|---|
 //! | `text.rt` | `Text`, a name or string that is copied in constant time | |
 //! | `listed.rt` | `Listed`, a list that contracts see as one | |
+//! | `numbers.rt` | the n-th of a list, counted from 1 | `specs/Numbers.antt` |
 //! | `integer.rt` | `Integer`, the type and range of integers | |
 //! | `constant.rt`, `fact.rt` | `Const`, `Fact`: a fact is made here | `specs/Order.antt` |
 //! | `binding.rt`, `instance.rt` | `Binding`, `Instance`: a rule with the values of its variables | `specs/Bindings.antt`, `specs/InstanceOrder.antt` |
@@ -26,6 +27,7 @@ mod instance;
 mod integer;
 mod laws;
 mod listed;
+mod numbers;
 mod out_of_memory;
 mod rows;
 mod text;
@@ -39,6 +41,7 @@ pub use instance::Instance;
 pub use integer::{GREATEST_INTEGER, Integer, LEAST_INTEGER};
 pub use laws::{derived_orders_are_the_stated_ones, orders_are_total, orders_tell_all_apart};
 pub use listed::Listed;
+pub use numbers::nth;
 pub use out_of_memory::OutOfMemory;
 pub use rows::{pairs_with, row_without, with_variable};
 pub use text::Text;
