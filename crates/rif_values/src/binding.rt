@@ -1,4 +1,4 @@
-ghost use Rattle.std.specs.Prelude.{◌≡◌, IfOk, None, Some};
+ghost use Rattle.std.specs.Prelude.{◌≡◌, [], IfOk, None, Some};
 ghost use Rattle.std.specs.Option.{option_copied};
 ghost use Rattle.rif_values.specs.Order.{binding_cmp};
 ghost use Rattle.rif_values.specs.Bindings.{IsBinding, bound, value_at, without_variables};
@@ -36,6 +36,14 @@ impl Model for Binding {
 }
 
 impl Binding {
+    /// The binding of no variable. It takes memory of constant size.
+    pub fn new(alloc: Global) -> Result<Binding, OutOfMemory>
+        ensures { IfOk result (λ binding. binding ≡ []) }
+    {
+        let pairs = Shared::from_vec(alloc, Vec::new(alloc))?;
+        Ok(Binding::from_pairs(pairs))
+    }
+
     /// The binding of these pairs, whose variables must rise, in constant time and without memory.
     pub fn from_pairs(pairs: Shared<(u32, Const)>) -> Binding
         requires { IsBinding pairs }
