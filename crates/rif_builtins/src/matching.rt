@@ -5,7 +5,7 @@ ghost use Rattle.std.specs.Prelude.{Some, None, if◌then◌else◌};
 ghost use Rattle.rif_values.specs.Facts.{same_const};
 
 use crate::pattern::Pattern;
-use crate::values::value;
+use crate::valuing::value;
 use rif_tree::Term;
 use rif_values::{Binding, Const, Fact, OutOfMemory, are_same, with_variable};
 use std::alloc::Global;
