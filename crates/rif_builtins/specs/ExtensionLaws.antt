@@ -3,8 +3,8 @@
 --     IsExtension row vs next      next has the values of the row, and values for exactly the variables vs
 --     terms_of p                   the terms of a pattern, from left to right, which stand against a fact's places
 --     is_of_kind p f               whether both are of one kind, and of one predicate if they are atoms
---     IsMatch p row f next         next extends the row by exactly the pattern's variables, and under it the pattern's
---                                  terms have the fact's constants as values
+--     IsMatch p row f next         next extends the row by exactly the pattern's variables, and under it the terms of
+--                                  the pattern have the fact's constants as values
 --     IsEquating a b row next      next extends the row by exactly the variables of a and b, and under it both have
 --                                  one value
 --     IsMatched base p rows next   one of the rows and one of the base's facts match to next
