@@ -1,3 +1,5 @@
+pub mod CallerLemmas
 pub mod ConflictSetLemmas
 pub mod ListingLemmas
+pub mod MembershipLemmas
 pub mod ThroughLemmas
