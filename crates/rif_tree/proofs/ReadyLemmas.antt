@@ -76,15 +76,15 @@ equal_grows us vs a b among is =
     let unbound_right = is_unbound_variable us b && left in
     or_either (left && right) (unbound_left || unbound_right) (equal_ready vs a b)
     (λ both. or_first (left_now && right_now) _
-        (both_grow left right left_now right_now (has_all_more us vs (variables_of a) among)
-        (has_all_more us vs (variables_of b) among) both))
+    (both_grow left right left_now right_now (has_all_more us vs (variables_of a) among)
+    (has_all_more us vs (variables_of b) among) both))
     (or_either unbound_left unbound_right (equal_ready vs a b)
-        (λ one. one_sided left_now right_now (is_unbound_variable vs a) (is_unbound_variable vs b)
-            (has_all_more us vs (variables_of b) among (and_second (is_unbound_variable us a) right one))
-            (unbound_turns us vs a (and_first (is_unbound_variable us a) right one)))
-        (λ one. other_sided left_now right_now (is_unbound_variable vs a) (is_unbound_variable vs b)
-            (has_all_more us vs (variables_of a) among (and_second (is_unbound_variable us b) left one))
-            (unbound_turns us vs b (and_first (is_unbound_variable us b) left one))))
+    (λ one. one_sided left_now right_now (is_unbound_variable vs a) (is_unbound_variable vs b)
+    (has_all_more us vs (variables_of b) among (and_second (is_unbound_variable us a) right one))
+    (unbound_turns us vs a (and_first (is_unbound_variable us a) right one)))
+    (λ one. other_sided left_now right_now (is_unbound_variable vs a) (is_unbound_variable vs b)
+    (has_all_more us vs (variables_of a) among (and_second (is_unbound_variable us b) left one))
+    (unbound_turns us vs b (and_first (is_unbound_variable us b) left one))))
     is
 
 abbrev ReadyGrows : Formula → Type 0
