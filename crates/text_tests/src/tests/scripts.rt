@@ -1,40 +1,40 @@
 //! The lines of scripts, and the items that they stand for.
-use super::outcomes::{job_with, leads_to};
+use crate::outcome::{is_read, is_refused};
+use std::alloc::{AllocError, Global};
 use std::test::Fail;
 
-/// A line with a client's name, and the same with its constants in full.
-static FORMS: &[(&str, &str)] = &[
-    ("a assert _p()", "a assert _p()"),
-    ("a assert _p(1 _q)", "a assert _p(1 _q)"),
-    ("a assert _o[_s->1]", "a assert _o[_s->1]"),
-    ("a assert _o # _c", "a assert _o # _c"),
-    ("a retract _p(1)", "a retract _p(1)"),
-    ("a retract _o[_s->1]", "a retract _o[_s->1]"),
-    ("a retract _o # _c", "a retract _o # _c"),
-    ("a retract _o _s", "a retract _o _s"),
-    ("a retract _o", "a retract _o"),
-    ("a modify _o[_s->1]", "a modify _o[_s->1]"),
-    ("a fire 0", "a fire 0"),
-    ("a until 5", "a until 5"),
-    ("a halt", "a halt"),
-    ("a dispose", "a dispose"),
+/// Lines that stand for themselves, with a client's name.
+static FORMS: &[&str] = &[
+    "a assert _p()",
+    "a assert _p(1 _q)",
+    "a assert _o[_s->1]",
+    "a assert _o # _c",
+    "a retract _p(1)",
+    "a retract _o[_s->1]",
+    "a retract _o # _c",
+    "a retract _o _s",
+    "a retract _o",
+    "a modify _o[_s->1]",
+    "a fire 0",
+    "a until 5",
+    "a halt",
+    "a dispose",
+    // each form of constant
+    "a assert _p(-5 0)",
+    "a assert _p(9223372036854775807 -9223372036854775808)",
+    "a assert _p(true false)",
+    "a assert <p>(<http://e/a> <>)",
+    "a assert _ä(\"€\")",
+    "a assert 5[true->\"v\"]",
+    "a retract \"o\" # -1",
+    "a retract false \"s\"",
 ];
 
-/// The same for each form of constant, at each place where one may stand.
+/// A line, and the same with its constants in full.
 static CONSTANTS: &[(&str, &str)] = &[
-    ("a assert _p(-5 0)", "a assert _p(-5 0)"),
-    (
-        "a assert _p(9223372036854775807 -9223372036854775808)",
-        "a assert _p(9223372036854775807 -9223372036854775808)",
-    ),
     (
         "a assert _p(\"\" \"a\\\"b\\\\c\\n\\t\\r\" \"\t\")",
         "a assert _p(\"\" \"a\\\"b\\\\c\\n\\t\\r\" \"\\t\")",
-    ),
-    ("a assert _p(true false)", "a assert _p(true false)"),
-    (
-        "a assert <p>(<http://e/a> <>)",
-        "a assert <p>(<http://e/a> <>)",
     ),
     (
         "a assert ex:p(ex: ex:b)",
@@ -44,7 +44,6 @@ static CONSTANTS: &[(&str, &str)] = &[
         "a retract xs:string",
         "a retract <http://www.w3.org/2001/XMLSchema#string>",
     ),
-    ("a assert _ä(\"€\")", "a assert _ä(\"€\")"),
     (
         "a assert _p(\"+07\"^^xs:integer \"-0\"^^xs:integer)",
         "a assert _p(7 0)",
@@ -69,34 +68,25 @@ static CONSTANTS: &[(&str, &str)] = &[
         "a assert \"p\"^^rif:local(\"\"^^rif:iri)",
         "a assert _p(<>)",
     ),
-    ("a assert 5[true->\"v\"]", "a assert 5[true->\"v\"]"),
-    ("a retract \"o\" # -1", "a retract \"o\" # -1"),
-    ("a retract false \"s\"", "a retract false \"s\""),
 ];
 
 /// A script, and the lines of its items.
 static LAYOUTS: &[(&str, &str)] = &[
-    ("", ""),
     ("\n \t\n\r\n(* n *)\n (**) (* a halt *)\t\n# a jump\n#", ""),
-    ("a halt", "in a halt\n"),
-    ("a halt\r\nb halt\r", "in a halt\nin b halt\n"),
-    ("  a\tassert (* n *) _p ( 1 ) \n", "in a assert _p(1)\n"),
-    ("(* n *)a(**)halt(**)", "in a halt\n"),
+    ("a halt\r\nb halt\r", "left a halt\nleft b halt\n"),
+    ("  a\tassert (* n *) _p ( 1 ) \n", "left a assert _p(1)\n"),
+    ("(* n *)a(**)halt(**)", "left a halt\n"),
     (
         "a assert _o#_c\na assert _o[_s->-1]",
-        "in a assert _o # _c\nin a assert _o[_s->-1]\n",
+        "left a assert _o # _c\nleft a assert _o[_s->-1]\n",
     ),
     (
         "b halt\n\na halt\n#\nb halt\n",
-        "in b halt\nin a halt\nin b halt\n",
+        "left b halt\nleft a halt\nleft b halt\n",
     ),
     (
         "that fire 1\ntrue halt\nassert assert _p()\nhalt halt\na_1 halt",
-        "in that fire 1\nin true halt\nin assert assert _p()\nin halt halt\nin a_1 halt\n",
-    ),
-    (
-        "b dispose\na halt\nb assert _p(1)",
-        "in b dispose\nleft a halt\nleft b assert _p(1)\n",
+        "left that fire 1\nleft true halt\nleft assert assert _p()\nleft halt halt\nleft a_1 halt\n",
     ),
 ];
 
@@ -155,15 +145,21 @@ static BAD: &[&str] = &[
     "a until _x",
 ];
 
+// The job of a script and a document of one line, which declares the prefix `ex`.
+fn job_with(alloc: Global, script: &str) -> Result<String, AllocError> {
+    format!(in alloc; "Document(Prefix(ex <http://e/>))\n%%\n{script}")
+}
+
 #[test]
 fn each_form_of_a_line_is_its_item(rt: HostRuntime) -> Result<(), Fail> {
     let alloc = rt.alloc();
-    for rows in [FORMS, CONSTANTS] {
-        for (line, item) in rows {
-            let job = job_with(alloc, line)?;
-            let wanted = format!(in alloc; "in {item}\n")?;
-            leads_to(&rt, alloc, job.as_str(), wanted.as_str())?;
-        }
+    for line in FORMS {
+        let item = format!(in alloc; "left {line}\n")?;
+        is_read(&rt, alloc, job_with(alloc, line)?.as_str(), item.as_str())?;
+    }
+    for (line, item) in CONSTANTS {
+        let item = format!(in alloc; "left {item}\n")?;
+        is_read(&rt, alloc, job_with(alloc, line)?.as_str(), item.as_str())?;
     }
     Ok(())
 }
@@ -171,9 +167,8 @@ fn each_form_of_a_line_is_its_item(rt: HostRuntime) -> Result<(), Fail> {
 #[test]
 fn white_space_names_and_comments_of_a_script(rt: HostRuntime) -> Result<(), Fail> {
     let alloc = rt.alloc();
-    for (script, wanted) in LAYOUTS {
-        let job = job_with(alloc, script)?;
-        leads_to(&rt, alloc, job.as_str(), wanted)?;
+    for (script, lines) in LAYOUTS {
+        is_read(&rt, alloc, job_with(alloc, script)?.as_str(), lines)?;
     }
     Ok(())
 }
@@ -182,8 +177,7 @@ fn white_space_names_and_comments_of_a_script(rt: HostRuntime) -> Result<(), Fai
 fn a_line_that_is_no_item_is_refused(rt: HostRuntime) -> Result<(), Fail> {
     let alloc = rt.alloc();
     for line in BAD {
-        let job = job_with(alloc, line)?;
-        leads_to(&rt, alloc, job.as_str(), "refused 17 line 3\n")?;
+        is_refused(&rt, alloc, job_with(alloc, line)?.as_str(), "17 line 3")?;
     }
     Ok(())
 }

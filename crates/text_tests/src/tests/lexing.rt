@@ -1,15 +1,12 @@
 //! What texts lead to: their tokens, or the refusal that stands first.
-mod broken;
-mod table;
-
-use crate::tokens;
-use broken::{BROKEN, WHOLE};
+use super::tokens::{LINES, NAMES, NUMBERS, SHORTEST, SIGNS, STRINGS, WHITE};
+use super::utf8::{BROKEN, WHOLE};
+use rif_lex::tokens;
 use rif_refusals::limits::MOST_INPUT_BYTES;
 use rif_refusals::{Fault, Refusal};
 use std::alloc::{AllocError, Global};
 use std::process::Abort;
 use std::test::Fail;
-use table::{LINES, NAMES, NUMBERS, SHORTEST, SIGNS, STRINGS, WHITE};
 
 /// What the bytes lead to, in the words of the tables.
 fn shown(alloc: Global, bytes: &[u8]) -> Result<String, AllocError> {

@@ -1,0 +1,12 @@
+//! Tables of inputs with what they lead to.
+mod cuts;
+mod documents;
+mod ends;
+mod jobs;
+mod lexing;
+mod limits;
+mod scripts;
+mod simple;
+mod tokens;
+mod utf8;
+mod words;
