@@ -16,7 +16,7 @@ use crate::uses::{FactUse, FrameUse};
 use rif_builtins::{value_in, values_in};
 use rif_facts::Facts;
 use rif_tree::{Action, Decl, Rule, Target, Term};
-use rif_values::{Binding, Change, Const, Fact, Listed, OutOfMemory, are_same, pairs_with};
+use rif_values::{Binding, Change, Const, Fact, Listed, OutOfMemory, Shared, are_same, pairs_with};
 use std::alloc::Global;
 
 // How many objects can be made at most.
@@ -276,7 +276,8 @@ fn changes_of_atom(
 {
     match values_in(alloc, row, arguments)? {
         Some(constants) => {
-            let fact = Fact::Atom(predicate.copy()?, constants);
+            let arguments = Shared::from_vec(alloc, constants.into_vec())?;
+            let fact = Fact::Atom(predicate.copy()?, arguments);
             Ok(Some(only(alloc, way.change(fact))?))
         }
         None => Ok(None),

@@ -9,7 +9,7 @@ ghost use Rattle.rif_builtins.specs.Values.{values_of};
 use crate::gathering::{push_found, push_kept};
 use rif_builtins::{Pattern, fact_match, holds, term_match, value, values};
 use rif_tree::{Formula, Pred, Term};
-use rif_values::{Binding, Fact, OutOfMemory, row_without};
+use rif_values::{Binding, Fact, OutOfMemory};
 use sqlite_items::Items;
 use std::alloc::Global;
 
@@ -196,7 +196,7 @@ fn rows_without(alloc: Global, vars: &[u32], rows: &[Binding]) -> Result<Vec<Bin
 {
     let mut all = Vec::new(alloc);
     for row in rows {
-        all.push(row_without(alloc, vars, row)?)?;
+        all.push(row.without(alloc, vars)?)?;
     }
     Ok(all)
 }

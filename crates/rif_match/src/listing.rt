@@ -74,7 +74,7 @@ fn rows_satisfying(
     ensures { IfOk result (λ rows. rows ≡ rows_of (base_of facts.now) rule.now) }
 {
     let mut one = Vec::new(alloc);
-    one.push(Binding::from_pairs(Listed::new(alloc)))?;
+    one.push(Binding::new(alloc)?)?;
     let bound = rows_through_levels(alloc, facts, rule.levels.as_slice(), one)?;
     let found = rows_through_condition(alloc, facts, &rule.condition, bound)?;
     sorted_set(alloc, found)
