@@ -10,8 +10,8 @@
 --     extensions_of base row f   the rows that extend the row and satisfy the formula, in order without repeats
 -- Source: RIF-PRD, "Matching substitution" and "Condition satisfaction". In a ready order (docs/PROFILE.md,
 -- "Ready order") each term that a row is asked for has its variables bound.
-use Rattle.std.specs.Prelude.{ℕ, Bool, false, ◌==◌, not, List, [], ◌∷◌, map, filter, length, Some, None, if◌then◌else◌}
-use Rattle.std.specs.List.{flat_map, filter_map, list_any}
+use Rattle.std.specs.Prelude.{ℕ, Bool, false, ◌==◌, List, [], ◌∷◌, map, filter, length, Some, None, if◌then◌else◌}
+use Rattle.std.specs.List.{flat_map, filter_map}
 use Rattle.std.specs.Option.{option_and_then}
 use Rattle.std.specs.declared.option.Option.{Option}
 use Rattle.rif_values.specs.declared.constant.Const.{Const}
@@ -29,7 +29,8 @@ use Rattle.rif_values.specs.Order.{binding_cmp}
 use Rattle.rif_values.specs.Facts.{same_const}
 use Rattle.rif_values.specs.Sets.{ordered}
 use Rattle.rif_builtins.specs.Builtins.{pred_value}
-use Rattle.rif_builtins.specs.Values.{value_of, values_of, variable_of}
+use Rattle.rif_tree.specs.Variables.{variable_of}
+use Rattle.rif_builtins.specs.Values.{value_of, values_of}
 
 -- what a condition is matched against
 pub record FactBase : Type 0 where

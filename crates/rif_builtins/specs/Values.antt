@@ -2,7 +2,7 @@
 --     value_of row t        a term's value, where it has one
 --     values_of row ts      the values of some terms, where each has one
 -- Source: RIF-PRD, "Terms" and "Matching substitution".
-use Rattle.std.specs.Prelude.{ℕ, List, [], ◌∷◌, map, nat_lt, Some, None, if◌then◌else◌}
+use Rattle.std.specs.Prelude.{List, [], ◌∷◌, map, Some, None}
 use Rattle.std.specs.Option.{option_map}
 use Rattle.std.specs.declared.option.Option.{Option}
 use Rattle.rif_tree.specs.declared.builtin.Func.{Func}
@@ -34,12 +34,3 @@ value_of row = fold-Term (Option Const) (value_step row)
 
 abbrev pub values_of : Row → List Term → Option (List Const)
 values_of row terms = all_of (map (value_of row) terms)
-
--- the variable that a term is, where it is one
-abbrev pub variable_step : Term-F (Option ℕ) → Option ℕ
-variable_step (ConstLayer c) = None
-variable_step (VarLayer v) = Some v
-variable_step (CallLayer func arguments) = None
-
-abbrev pub variable_of : Term → Option ℕ
-variable_of = fold-Term (Option ℕ) variable_step

@@ -5,11 +5,13 @@
 //! |---|---|---|
 //! | `valuing.rt`, `builtins.rt` | values of terms, and the place of the built-ins | `specs/Values.antt`, `specs/Builtins.antt` |
 //! | `pattern.rt`, `matching.rt` | `Pattern`, one pattern against one fact | `specs/Extensions.antt` |
+//! | `laws.rt` | what the words of extensions promise | `specs/ExtensionLaws.antt` |
 //!
 //! Begin at `fact_match`.
 #![tactic(auto)]
 
 mod builtins;
+pub mod laws;
 mod matching;
 mod pattern;
 mod valuing;
