@@ -4,7 +4,6 @@ use Rattle.std.proofs.Common.{append_assoc, add-one, drop-cons, subst, IfOk, Res
 use Rattle.std.specs.declared.cmp.Ordering.{Ordering}
 use Rattle.std.specs.List.{flat_map}
 use Rattle.std.proofs.lemmas.List.{map-append}
-use Rattle.rif_values.specs.declared.fact.Fact.{Fact}
 use Rattle.rif_values.specs.declared.instance.Instance.{Instance}
 use Rattle.rif_tree.specs.declared.rule.Rule.{Rule}
 use Rattle.rif_values.specs.contracts.binding.BindingOrd.TheImpl as binding_order
@@ -12,7 +11,7 @@ use Rattle.rif_values.specs.Order.{binding_cmp}
 use Rattle.rif_values.specs.Sets.{ordered}
 use Rattle.rif_values.proofs.CallerLemmas.{binding_order_is}
 use Rattle.rif_values.specs.Bindings.{Row}
-use Rattle.rif_builtins.specs.Extensions.{in_turn}
+use Rattle.rif_builtins.specs.Extensions.{FactBase, in_turn}
 use Rattle.rif_match.specs.ConflictSet.{rows_of, instance_of, instances_from}
 
 in_turn_append : (ss ts : List (List Row → List Row)) (rows : List Row)
@@ -42,16 +41,16 @@ level_step t h ls i level rows within is =
     ∙ in_turn_both t (h level) (flat_map h (drop (i + 1) ls)) rows
 
 -- the instances of one more rule
-pub rule_step : (rules : List Rule) (i : ℕ) (rule : Rule) (w : List Fact) (all : List Instance) → i < length rules
+pub rule_step : (rules : List Rule) (i : ℕ) (rule : Rule) (base : FactBase) (all : List Instance) → i < length rules
     → rule ≡ get_or rules i rule
-    → all ++ instances_from (suc i) (drop i rules) w
-    ≡ (all ++ map (instance_of (i + 1)) (rows_of w rule)) ++ instances_from (suc (i + 1)) (drop (i + 1) rules) w
-rule_step rules i rule w all within is =
-    ap (λ rs. all ++ instances_from (suc i) rs w) (drop_item rules i rule within is)
-    ∙ ap (λ n. all ++ (map (instance_of n) (rows_of w rule) ++ instances_from (suc n) (drop (i + 1) rules) w))
+    → all ++ instances_from (suc i) (drop i rules) base
+    ≡ (all ++ map (instance_of (i + 1)) (rows_of base rule)) ++ instances_from (suc (i + 1)) (drop (i + 1) rules) base
+rule_step rules i rule base all within is =
+    ap (λ rs. all ++ instances_from (suc i) rs base) (drop_item rules i rule within is)
+    ∙ ap (λ n. all ++ (map (instance_of n) (rows_of base rule) ++ instances_from (suc n) (drop (i + 1) rules) base))
     (sym (add-one i))
-    ∙ sym (append_assoc all (map (instance_of (i + 1)) (rows_of w rule))
-    (instances_from (suc (i + 1)) (drop (i + 1) rules) w))
+    ∙ sym (append_assoc all (map (instance_of (i + 1)) (rows_of base rule))
+    (instances_from (suc (i + 1)) (drop (i + 1) rules) base))
 
 -- what was found, put in order
 pub ordered_rows : {E : Type 0} (r : Result (List Row) E) (found rows : List Row) → found ≡ rows
