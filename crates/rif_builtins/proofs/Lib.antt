@@ -1,5 +1,7 @@
 pub mod BindingLemmas
 pub mod EqualLemmas
+pub mod FormLemmas
 pub mod MatchingLemmas
+pub mod MemberLemmas
 pub mod PatternLemmas
 pub mod RowLemmas

@@ -7,12 +7,14 @@
 --     IsMatch p row f next        next extends the row by exactly the pattern's variables, and under it the pattern's terms
 --                                 have the fact's constants as values
 --     IsEquating a b row next     next extends the row by exactly the variables of a and b, and under it both have one value
+--     IsMatched base p rows next  one of the rows and one of the base's facts match to next
+--     IsFormByForm base rows next what it takes, form by form, that a formula takes some of the rows to next
 -- Source: RIF-PRD, "Matching substitution" and "Condition satisfaction".
 use Rattle.std.specs.Prelude.{◌≡◌, ◌↔◌, ◌⊎◌, ℕ, Bool, true, false, List, [], ◌∷◌, ◌++◌, map, Some}
 use Rattle.std.specs.List.{All, Contains, flat_map}
 use Rattle.rif_values.specs.declared.constant.Const.{Const}
 use Rattle.rif_values.specs.declared.fact.Fact.{Fact}
-use Rattle.rif_values.specs.declared.fact.Fact.TheVariants.{Atom, Frame, Member}
+use Rattle.rif_values.specs.declared.fact.Fact.TheVariants.{Atom as AtomFact, Frame as FrameFact, Member as MemberFact}
 use Rattle.rif_values.specs.Bindings.{Row, IsBinding, value_at, without_variables}
 use Rattle.rif_values.specs.Facts.{same_const}
 use Rattle.rif_values.specs.Order.{binding_cmp}
@@ -20,6 +22,7 @@ use Rattle.rif_values.specs.Sets.{IsSet}
 use Rattle.rif_tree.specs.declared.builtin.Pred.{Pred}
 use Rattle.rif_tree.specs.declared.tree.Term.{Term}
 use Rattle.rif_tree.specs.declared.tree.Formula.{Formula}
+use Rattle.rif_tree.specs.declared.tree.Formula.TheVariants.{And, Or, Not, Exists, Equal, Member, Frame, Atom, Holds}
 use Rattle.rif_tree.specs.Laws.{AreSame}
 use Rattle.rif_tree.specs.Ready.{is_ready, pattern_ready, equal_ready}
 use Rattle.rif_tree.specs.Scoped.{is_scoped}
@@ -58,20 +61,20 @@ terms_of (SlotPattern o s v) = o ∷ s ∷ v ∷ []
 terms_of (MemberPattern o c) = o ∷ c ∷ []
 
 abbrev pub constants_of : Fact → List Const
-constants_of (Atom q cs) = cs
-constants_of (Frame p t w) = p ∷ t ∷ w ∷ []
-constants_of (Member p d) = p ∷ d ∷ []
+constants_of (AtomFact q cs) = cs
+constants_of (FrameFact p t w) = p ∷ t ∷ w ∷ []
+constants_of (MemberFact p d) = p ∷ d ∷ []
 
 abbrev pub is_of_kind : Pattern → Fact → Bool
-is_of_kind (AtomPattern p ts) (Atom q cs) = same_const p q
-is_of_kind (AtomPattern p ts) (Frame o s v) = false
-is_of_kind (AtomPattern p ts) (Member o c) = false
-is_of_kind (SlotPattern o s v) (Atom q cs) = false
-is_of_kind (SlotPattern o s v) (Frame p t w) = true
-is_of_kind (SlotPattern o s v) (Member p d) = false
-is_of_kind (MemberPattern o c) (Atom q cs) = false
-is_of_kind (MemberPattern o c) (Frame p t w) = false
-is_of_kind (MemberPattern o c) (Member p d) = true
+is_of_kind (AtomPattern p ts) (AtomFact q cs) = same_const p q
+is_of_kind (AtomPattern p ts) (FrameFact o s v) = false
+is_of_kind (AtomPattern p ts) (MemberFact o c) = false
+is_of_kind (SlotPattern o s v) (AtomFact q cs) = false
+is_of_kind (SlotPattern o s v) (FrameFact p t w) = true
+is_of_kind (SlotPattern o s v) (MemberFact p d) = false
+is_of_kind (MemberPattern o c) (AtomFact q cs) = false
+is_of_kind (MemberPattern o c) (FrameFact p t w) = false
+is_of_kind (MemberPattern o c) (MemberFact p d) = true
 
 pub record IsMatch (pattern : Pattern) (row : Row) (fact : Fact) (next : Row) : Type 0 where
   pub kind : is_of_kind pattern fact ≡ true
@@ -83,3 +86,71 @@ abbrev pub IsMatchingExact : Type 0
 IsMatchingExact = (pattern : Pattern) (row : Row) (fact : Fact) (next : Row)
     → IsBinding row → pattern_ready (variables_in row) (terms_of pattern) ≡ true
     → (match_fact pattern row fact ≡ Some next) ↔ IsMatch pattern row fact next
+
+-- ---- an equality
+
+pub record IsEquating (a b : Term) (row next : Row) : Type 0 where
+  pub extends : IsExtension row (variables_in row ++ (variables_of a ++ variables_of b)) next
+  pub value : (c : Const) × (value_of next a ≡ Some c) × (value_of next b ≡ Some c)
+
+-- an equality that is ready takes a row to the one row that extends it by exactly the variables of both sides and under
+-- which both have the same value, where there is one
+abbrev pub IsEqualityExact : Type 0
+IsEqualityExact = (a b : Term) (row next : Row) → IsBinding row → equal_ready (variables_in row) a b ≡ true
+    → (equal_row a b row ≡ Some next) ↔ IsEquating a b row next
+
+-- ---- which rows a formula gives, whatever the order in which it lists them
+
+-- what a formula gives of some rows is what it gives of each of them, together
+abbrev pub IsOneByOne : Type 0
+IsOneByOne = (base : FactBase) (f : Formula) (rows : List Row) (next : Row)
+    → Contains (through base f rows) next
+    ↔ ((row : Row) × Contains rows row × Contains (through base f (row ∷ [])) next)
+
+abbrev pub IsOfBoth : Type 0
+IsOfBoth = (base : FactBase) (f : Formula) (xs ys : List Row) (next : Row)
+    → Contains (through base f (xs ++ ys)) next
+    ↔ (Contains (through base f xs) next ⊎ Contains (through base f ys) next)
+
+abbrev pub IsMatched : FactBase → Pattern → List Row → Row → Type 0
+IsMatched base pattern rows next =
+    (row : Row) × (fact : Fact) × Contains rows row × Contains (matchable base) fact
+    × (match_fact pattern row fact ≡ Some next)
+
+pub record IsFormByForm (base : FactBase) (rows : List Row) (next : Row) : Type 0 where
+  pub atom : (p : Const) (ts : List Term)
+      → Contains (through base (Atom p ts) rows) next ↔ IsMatched base (AtomPattern p ts) rows next
+  pub membership : (o c : Term)
+      → Contains (through base (Member o c) rows) next ↔ IsMatched base (MemberPattern o c) rows next
+  pub empty_frame : (o : Term) → Contains (through base (Frame o []) rows) next ↔ Contains rows next
+  pub frame : (o : Term) (pair : Term × Term) (pairs : List (Term × Term))
+      → Contains (through base (Frame o (pair ∷ pairs)) rows) next
+      ↔ ((row : Row) × IsMatched base (SlotPattern o pair.0 pair.1) rows row
+      × Contains (through base (Frame o pairs) (row ∷ [])) next)
+  pub empty_conjunction : Contains (through base (And []) rows) next ↔ Contains rows next
+  pub conjunction : (f : Formula) (fs : List Formula)
+      → Contains (through base (And (f ∷ fs)) rows) next
+      ↔ ((row : Row) × Contains (through base f rows) row × Contains (through base (And fs) (row ∷ [])) next)
+  pub disjunction : (fs : List Formula)
+      → Contains (through base (Or fs) rows) next
+      ↔ ((f : Formula) × Contains fs f × Contains (through base f rows) next)
+  pub negation : (f : Formula)
+      → Contains (through base (Not f) rows) next ↔ (Contains rows next × (through base f (next ∷ []) ≡ []))
+  pub existential : (vs : List ℕ) (f : Formula)
+      → Contains (through base (Exists vs f) rows) next
+      ↔ ((row : Row) × Contains (through base f rows) row × (without_variables vs row ≡ next))
+  pub equality : (a b : Term)
+      → Contains (through base (Equal a b) rows) next
+      ↔ ((row : Row) × Contains rows row × (equal_row a b row ≡ Some next))
+  pub predicate : (pred : Pred) (ts : List Term)
+      → Contains (through base (Holds pred ts) rows) next
+      ↔ (Contains rows next × (holds_at pred (values_of next ts) ≡ true))
+
+abbrev pub GoesByForm : Type 0
+GoesByForm = (base : FactBase) (rows : List Row) (next : Row) → IsFormByForm base rows next
+
+-- the extensions of a row are a set, of the rows that the formula gives
+abbrev pub IsSetOfExtensions : Type 0
+IsSetOfExtensions = (base : FactBase) (row : Row) (f : Formula)
+    → IsSet binding_cmp (extensions_of base row f)
+    × ((next : Row) → Contains (extensions_of base row f) next ↔ Contains (through base f (row ∷ [])) next)
