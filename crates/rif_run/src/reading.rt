@@ -1,8 +1,8 @@
 ghost use Rattle.std.specs.Prelude.{◌≡◌, ◌-◌, ◌<◌, ◌^◌, IfOk, IsErrOf, IsOkUnless, OnOk, vec_len};
 ghost use Rattle.rif_run.specs.Reading.{ReadsFront};
 
-use rif_refusals::limits::MOST_INPUT_BYTES;
 use rif_script::{Failed, Source};
+use rif_refusals::limits::MOST_INPUT_BYTES;
 use std::alloc::{AllocError, Global};
 
 /// The most bytes that a run reads: one more than an input may have, by which one that is too long
