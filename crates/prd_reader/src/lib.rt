@@ -15,8 +15,6 @@
 
 mod document;
 mod laws;
-#[cfg(test)]
-mod tests;
 
 pub use document::{read_doc, read_parts};
 pub use laws::one_outcome;

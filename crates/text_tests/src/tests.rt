@@ -9,4 +9,3 @@ mod scripts;
 mod simple;
 mod tokens;
 mod utf8;
-mod words;
