@@ -24,8 +24,6 @@ mod plain;
 mod replay;
 mod session;
 mod steps;
-#[cfg(test)]
-mod tests;
 
 pub use candidate::Candidate;
 pub use choosing::{choose_plain, priority};

@@ -29,6 +29,3 @@ pub use laws::{
 pub use lexer::{tokens, tokens_into};
 pub use place::{Place, end_of};
 pub use token::{Kind, Token, Tokens};
-
-#[cfg(test)]
-mod tests;

@@ -3,8 +3,8 @@ ghost use Rattle.rif_script.specs.Cutting.{HasItsClients};
 ghost use Rattle.rif_run.specs.Job.{IsRunOf, IsRunText, RefusesRun};
 
 use prd_relation::replay_plain;
-use rif_script::{Job, batches_of, read_job, simple_job, write_run};
 use rif_refusals::{Fault, Refusal};
+use rif_script::{Job, batches_of, read_job, simple_job, write_run};
 use rif_values::OutOfMemory;
 use std::alloc::Global;
 

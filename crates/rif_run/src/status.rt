@@ -41,10 +41,12 @@ impl Status {
     {
         match self {
             Status::Done | Status::Refused => None,
-            Status::Usage => Some("usage: rif_run run, or rif_run check"),
-            Status::ReadFault => Some("rif_run: the input could not be read"),
-            Status::WriteFault => Some("rif_run: the output could not be written"),
-            Status::OutOfMemory => Some("rif_run: out of memory"),
+            Status::Usage => Some(
+                "usage: hauskimu run FILE, or hauskimu check FILE; < FILE is the same",
+            ),
+            Status::ReadFault => Some("hauskimu: the input could not be read"),
+            Status::WriteFault => Some("hauskimu: the output could not be written"),
+            Status::OutOfMemory => Some("hauskimu: out of memory"),
         }
     }
 }

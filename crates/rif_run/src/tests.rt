@@ -1,160 +1,123 @@
+//! What a run reads and writes, call by call. Runs with their texts are in examples/.
+ghost use Rattle.std.specs.Prelude.{◌≡◌, ◌-◌, ◌<◌, ◌^◌, IfOk, length};
+ghost use Rattle.std.specs.Io.{ReadsAtMost, WritesAtMost};
+ghost use Rattle.std.specs.Io.KnownBytes.{ReadConsumes, WriteAppends};
+ghost use Rattle.rif_script.specs.Faults.{CountsFaults};
+
 use crate::status::Status;
 use crate::top::rif_run;
-use rif_script::{MemSink, MemSource, Source};
+use rif_script::{Failed, MemSink, MemSource, Sink, Source};
 use rif_values::{OutOfMemory, Text};
-use std::alloc::{AllocError, Global};
+use std::alloc::Global;
+use std::process::Abort;
 use std::test::Fail;
 
-fn texts(alloc: Global, words: &[&str]) -> Result<Vec<Text>, OutOfMemory> {
-    let mut texts = Vec::new(alloc);
-    for word in words {
-        texts.push(Text::from_str(alloc, word)?)?;
+/// An end that notes of each call how long the buffer is that it is to fill, or the piece that it is given.
+#[derive(Drop)]
+struct Noted<E> {
+    end: E,
+    lengths: Vec<usize>,
+}
+
+impl<S: Source> Source for Noted<S> {
+    ghost left = { λ noted. S.left noted.end };
+
+    ghost faults = { λ noted. S.faults noted.end };
+
+    fn take(&mut self, buf: &mut [u8]) -> Result<usize, Failed>
+        requires { S.faults self.old.end < 2 ^ 64 - 1 }
+        ensures bound { ReadsAtMost result buf.new }
+        ensures bytes { ReadConsumes (S.left self.old.end) (S.left self.new.end) result buf.new }
+        ensures cause { CountsFaults (S.faults self.old.end) (S.faults self.new.end) result }
+    {
+        let _ = self.lengths.push(buf.len());
+        self.end.take(buf)
     }
-    Ok(texts)
 }
 
-const DISCOUNT: &[u8] =
-    b"Document(Group(Forall ?c (If And(?c # _Customer ?c[_status->\"Silver\"]) Then Do(Assert(?c[_discount->5])))))
-%%
-a assert _c1 # _Customer
-a assert _c1[_status->\"Silver\"]
-a fire 10
-";
+impl<K: Sink> Sink for Noted<K> {
+    ghost written = { λ noted. K.written noted.end };
 
-const RUN_OF_DISCOUNT: &[u8] = b"turn 1
-in a assert _c1 # _Customer
-in a assert _c1[_status->\"Silver\"]
-in a fire 10
-fired 1 ?c=_c1
-+ _c1[_discount->5]
-turn 2
-quiet
-end turns 2 firings 1 facts 3
-";
+    ghost faults = { λ noted. K.faults noted.end };
 
-fn discount(alloc: Global) -> Result<Vec<u8>, AllocError> {
-    DISCOUNT.to_vec(alloc)
+    fn give(&mut self, piece: &[u8]) -> Result<usize, Failed>
+        requires { K.faults self.old.end < 2 ^ 64 - 1 }
+        ensures bound { WritesAtMost result piece.now }
+        ensures bytes { WriteAppends (K.written self.old.end) (K.written self.new.end) result piece.now }
+        ensures progress { 0 < length piece.now → IfOk result (λ count. 0 < count) }
+        ensures cause { CountsFaults (K.faults self.old.end) (K.faults self.new.end) result }
+    {
+        let _ = self.lengths.push(piece.len());
+        self.end.give(piece)
+    }
 }
 
-fn spaces(alloc: Global, count: usize) -> Result<Vec<u8>, AllocError> {
-    vec![in alloc; b' '; count]
+fn with_notes<E>(alloc: Global, end: E) -> Noted<E>
+    ensures { result.end ≡ end }
+{
+    Noted {
+        end,
+        lengths: Vec::new(alloc),
+    }
 }
 
-#[test]
-fn a_job_is_run(rt: HostRuntime) -> Result<(), Fail> {
-    let alloc = rt.alloc();
-    let words = texts(alloc, &["run"])?;
-    let mut source = MemSource::new(discount(alloc)?, 16, Vec::new(alloc));
-    let mut sink = MemSink::new(alloc, 512, 8, Vec::new(alloc))?;
-    let status = rif_run(alloc, &words, &mut source, &mut sink);
-    assert!(rt; status == Status::Done);
-    assert_eq!(rt; sink.bytes(), RUN_OF_DISCOUNT);
-    Ok(())
+fn the_word_run(alloc: Global) -> Result<Vec<Text>, OutOfMemory> {
+    let word = Text::from_str(alloc, "run")?;
+    Ok(vec![in alloc; word]?)
 }
 
-#[test]
-fn a_failing_third_read_is_a_read_fault(rt: HostRuntime) -> Result<(), Fail> {
-    let alloc = rt.alloc();
-    let words = texts(alloc, &["run"])?;
-    let mut source = MemSource::new(discount(alloc)?, 16, vec![in alloc; 3]?);
-    let mut sink = MemSink::new(alloc, 512, 64, Vec::new(alloc))?;
-    let status = rif_run(alloc, &words, &mut source, &mut sink);
-    assert!(rt; status == Status::ReadFault);
-    assert!(rt; sink.bytes().is_empty());
-    Ok(())
-}
+/// A job of 62 bytes, whose run has 96.
+static JOB: &str = "Document(Group(Do(Assert(_p(1)))))\n%%\na assert _q(2)\na fire 5\n";
 
-#[test]
-fn a_failing_second_write_is_a_write_fault(rt: HostRuntime) -> Result<(), Fail> {
-    let alloc = rt.alloc();
-    let words = texts(alloc, &["run"])?;
-    let mut source = MemSource::new(discount(alloc)?, 16, Vec::new(alloc));
-    let mut sink = MemSink::new(alloc, 512, 8, vec![in alloc; 2]?)?;
-    let status = rif_run(alloc, &words, &mut source, &mut sink);
-    assert!(rt; status == Status::WriteFault);
-    assert_eq!(rt; sink.bytes(), b"turn 1\ni".as_slice());
-    Ok(())
-}
-
-/// The words, an input, the status, and what is written.
-static ANSWERS: &[(&str, &str, Status, &str)] = &[
-    (
-        "run",
-        "        ",
-        Status::Refused,
-        "refused 4 line 1 col 9\n",
-    ),
-    (
-        "run",
-        "Document(Group(If Or() Then Do(Assert(_q()))))\n",
-        Status::Refused,
-        "refused 8 line 1 col 1\n",
-    ),
-    (
-        "check",
-        "Document(Group(If Or() Then Do(Assert(_q()))))\n",
-        Status::Done,
-        "Document(Group(\nGroup 0(If Or() Then Do(Assert(_q())))\n))\n",
-    ),
-    (
-        "check",
-        "Document()\n%%\na jump\n",
-        Status::Refused,
-        "refused 17 line 3\n",
-    ),
-    (
-        "run",
-        "Document(Group(Do(Assert(_p(1)))))\n%%\na fire 5\n",
-        Status::Done,
-        "turn 1\nin a fire 5\nfired 1\n+ _p(1)\nturn 2\nquiet\nend turns 2 firings 1 facts 1\n",
-    ),
+/// The call of a source of 16 bytes a call that fails and the one of a sink of 32, or 0; the status; how often the
+/// source is called, and with how much the sink is each time.
+static RUNS: &[(u64, u64, Status, usize, &[usize])] = &[
+    (0, 0, Status::Done, 5, &[96, 64, 32]),
+    (3, 0, Status::ReadFault, 3, &[]),
+    (0, 2, Status::WriteFault, 5, &[96, 64]),
 ];
 
 #[test]
-fn each_command_answers_an_input(rt: HostRuntime) -> Result<(), Fail> {
-    let alloc = rt.alloc();
-    for (word, input, wanted, written) in ANSWERS {
-        let words = texts(alloc, &[*word])?;
-        let input = input.as_bytes().to_vec(alloc)?;
-        let mut source = MemSource::new(input, 16, Vec::new(alloc));
-        let mut sink = MemSink::new(alloc, 128, 64, Vec::new(alloc))?;
-        let status = rif_run(alloc, &words, &mut source, &mut sink);
-        assert_eq!(rt; status, *wanted);
-        assert_eq!(rt; sink.bytes(), written.as_bytes());
+fn an_end_that_is_done_with_is_not_called_again(rt: HostRuntime) -> Result<(), Fail> {
+    for (read, write, status, reads, pieces) in RUNS {
+        calls(&rt, rt.alloc(), (*read, *write), *status, *reads, pieces)?;
     }
     Ok(())
 }
 
-/// The status with a source that fails at its first call, and a sink without room: a read or a write
-/// would show.
-fn status_without_ends(alloc: Global, words: &[&str]) -> Result<Status, OutOfMemory> {
-    let words = texts(alloc, words)?;
-    let mut source = MemSource::new(spaces(alloc, 64)?, 16, vec![in alloc; 1]?);
-    let mut sink = MemSink::new(alloc, 0, 8, Vec::new(alloc))?;
-    Ok(rif_run(alloc, &words, &mut source, &mut sink))
+fn calls(
+    rt: &impl Abort,
+    alloc: Global,
+    failing: (u64, u64),
+    status: Status,
+    reads: usize,
+    pieces: &[usize],
+) -> Result<(), Fail> {
+    let job = JOB.as_bytes().to_vec(alloc)?;
+    let words = the_word_run(alloc)?;
+    let mut source = with_notes(alloc, MemSource::new(job, 16, vec![in alloc; failing.0]?));
+    let mut sink = with_notes(
+        alloc,
+        MemSink::new(alloc, 512, 32, vec![in alloc; failing.1]?)?,
+    );
+    assert_eq!(rt; rif_run(alloc, &words, &mut source, &mut sink), status);
+    assert_eq!(rt; source.lengths.len(), reads, "{failing:?}");
+    assert_eq!(rt; sink.lengths.as_slice(), pieces, "{failing:?}");
+    Ok(())
 }
 
-#[test]
-fn other_words_read_and_write_nothing(rt: HostRuntime) -> Result<(), Fail> {
-    let alloc = rt.alloc();
-    assert_eq!(rt; status_without_ends(alloc, &["run", "now"])?, Status::Usage);
-    assert_eq!(rt;
-        status_without_ends(alloc, &["check", "run"])?,
-        Status::Usage
-    );
-    assert_eq!(rt; status_without_ends(alloc, &[])?, Status::Usage);
-    assert_eq!(rt; status_without_ends(alloc, &["--help"])?, Status::Usage);
-    Ok(())
+fn spaces(alloc: Global, count: usize) -> Result<Vec<u8>, OutOfMemory> {
+    Ok(vec![in alloc; b' '; count]?)
 }
 
 #[test]
 fn a_long_input_is_cut(rt: HostRuntime) -> Result<(), Fail> {
     let alloc = rt.alloc();
-    let words = texts(alloc, &["run"])?;
+    let words = the_word_run(alloc)?;
     let mut source = MemSource::new(spaces(alloc, 4_194_310)?, 1_000_000, Vec::new(alloc));
     let mut sink = MemSink::new(alloc, 64, 64, Vec::new(alloc))?;
     let status = rif_run(alloc, &words, &mut source, &mut sink);
-    assert!(rt; status == Status::Refused);
+    assert_eq!(rt; status, Status::Refused);
     let mut buf = [0u8; 8];
     assert_eq!(rt; source.take(&mut buf), Ok(5));
     Ok(())

@@ -80,37 +80,3 @@ pub fn doc_part(bytes: &[u8]) -> &[u8]
 {
     parts_of(bytes).document
 }
-
-#[cfg(test)]
-mod tests {
-    use super::*;
-    use std::test::Fail;
-
-    /// A job, and its document.
-    static JOBS: &[(&str, &str)] = &[
-        ("", ""),
-        ("Document()", "Document()"),
-        ("Document()\n", "Document()\n"),
-        ("Document()\n%%\na halt\n", "Document()\n"),
-        ("Document()\n%%\na halt\n%%\n", "Document()\n"),
-        ("Document()\n%%", "Document()\n"),
-        ("Document()\r\n%%\r\na halt\r\n", "Document()\r\n"),
-        ("Document()\n%%\r", "Document()\n"),
-        ("%%\nDocument()\n", ""),
-        // such a line ends the document wherever it stands
-        ("Document((*\n%%\n*))\n%%\na halt\n", "Document((*\n"),
-        ("Document(\n%%\n)\n", "Document(\n"),
-        // lines that have more than that
-        ("Document() %%\na halt\n", "Document() %%\na halt\n"),
-        ("Document()\n%% \n%%%\n", "Document()\n%% \n%%%\n"),
-        ("Document()\n %%\n%%\r\r\n", "Document()\n %%\n%%\r\r\n"),
-    ];
-
-    #[test]
-    fn the_document_ends_before_the_first_separator(rt: HostRuntime) -> Result<(), Fail> {
-        for (job, document) in JOBS {
-            assert_eq!(rt; doc_part(job.as_bytes()), document.as_bytes(), "{job}");
-        }
-        Ok(())
-    }
-}

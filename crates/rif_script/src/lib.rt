@@ -49,8 +49,6 @@ mod simple_rule;
 mod sink;
 mod source;
 mod standard;
-#[cfg(test)]
-mod tests;
 mod trace;
 
 pub use cutting::batches_of;

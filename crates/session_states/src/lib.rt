@@ -13,8 +13,6 @@
 mod batch;
 mod item;
 mod state;
-#[cfg(test)]
-mod tests;
 mod turn;
 
 pub use batch::Batch;

@@ -1,0 +1,17 @@
+//! Tests of the house of meaning. What they try is read from the text of jobs, and what comes out is shown as
+//! text, so that no value is built by hand. Runs that the program can do stand in examples/.
+//!
+//! | File | Has |
+//! |---|---|
+//! | `reading.rt` | documents, changes and facts from their text |
+//! | `showing.rt` | facts and instances as text |
+//! | `tests/calls.rt` | facts, conditions, instances and histories |
+//! | `tests/runs.rt` | whole runs |
+#![tactic(auto)]
+
+#[cfg(test)]
+mod reading;
+#[cfg(test)]
+mod showing;
+#[cfg(test)]
+mod tests;

@@ -1,0 +1,3 @@
+//! Calls with small values, and whole runs.
+mod calls;
+mod runs;

@@ -1,0 +1,150 @@
+//! Each call on small values that were worked by hand.
+use crate::reading::{changes_of, doc_of, facts_of};
+use crate::showing::{delta_text, history_text, show_facts, show_row};
+use prd_relation::{Candidate, Plain, choose_plain};
+use rif_facts::Facts;
+use rif_match::{list_instances, matches};
+use rif_refusals::Fault;
+use rif_tree::Doc;
+use rif_values::Binding;
+use std::alloc::Global;
+use std::test::Fail;
+
+/// Changes that lead to the state of the tests below, one of them done twice.
+static STATE: &str = "a assert _y # _C\na assert _x[_s->_b]\na assert _x # _C\n\
+    a assert _p(_x)\na assert _x[_s->_a]\na assert _y # _C\n";
+
+#[test]
+fn a_state_has_its_facts_in_order_each_once(rt: HostRuntime) -> Result<(), Fail> {
+    let alloc = rt.alloc();
+    let state = facts_of(alloc, STATE)?;
+    let mut shown = Vec::new(alloc);
+    show_facts(alloc, &mut shown, "", state.copy()?.as_slice())?;
+    let wanted = "_p(_x) _x[_s->_a] _x[_s->_b] _x # _C _y # _C ";
+    assert_eq!(rt; str::from_utf8(shown.as_slice())?, wanted);
+    Ok(())
+}
+
+/// A change of the state, and what it removes and adds.
+static CHANGES: &[(&str, &str)] = &[
+    ("assert _y # _C", ""),
+    ("assert _y # _B", "+_y # _B "),
+    ("retract _x # _D", ""),
+    ("retract _x # _C", "-_x # _C "),
+    ("retract _x _s", "-_x[_s->_a] -_x[_s->_b] "),
+    ("retract _x", "-_x[_s->_a] -_x[_s->_b] -_x # _C "),
+    ("modify _x[_s->_b]", "-_x[_s->_a] "),
+    ("modify _y[_s->_b]", "+_y[_s->_b] "),
+];
+
+#[test]
+fn a_change_removes_and_adds_facts(rt: HostRuntime) -> Result<(), Fail> {
+    let alloc = rt.alloc();
+    let old = facts_of(alloc, STATE)?;
+    for (change, wanted) in CHANGES {
+        let line = format!(in alloc; "a {change}")?;
+        let new = old.after(alloc, changes_of(alloc, line.as_str())?.as_slice())?;
+        let shown = delta_text(alloc, &old.net_change_to(alloc, &new)?)?;
+        assert_eq!(rt; str::from_utf8(shown.as_slice())?, *wanted, "{change}");
+    }
+    Ok(())
+}
+
+const OF_C_WITHOUT_P: &str = "And(?x # _C Not(_p(?x)))";
+
+/// A condition, a second one, and the rows that the instances of the first extend to under the second.
+static CONDITIONS: &[(&str, &str, &str)] = &[
+    ("And()", "?x # _C", "_x, _y, "),
+    (OF_C_WITHOUT_P, "?x # _C", "_y, "),
+    (OF_C_WITHOUT_P, "_p(?x)", ""),
+    ("And()", "Or(?x # _C _p(?x))", "_x, _y, "),
+    ("?x # _C", "?y # _C", "_x,_x, _x,_y, _y,_x, _y,_y, "),
+    ("_p(?x)", "?x[_s->?y]", "_x,_a, _x,_b, "),
+    ("And()", "And(?x # _C Exists ?z (?x[_s->?z]))", "_x, "),
+    ("?x[_s->?y]", "?y = _b", "_x,_b, "),
+];
+
+#[test]
+fn rows_satisfy_conditions(rt: HostRuntime) -> Result<(), Fail> {
+    let alloc = rt.alloc();
+    let facts = facts_of(alloc, STATE)?;
+    for (first, second, wanted) in CONDITIONS {
+        let mut shown = Vec::new(alloc);
+        let second = rule_with(alloc, second)?;
+        for instance in list_instances(alloc, &rule_with(alloc, first)?, &facts)?.as_slice() {
+            show_longer(alloc, &mut shown, &facts, &second, &instance.row)?;
+        }
+        assert_eq!(rt; str::from_utf8(shown.as_slice())?, *wanted, "{first}");
+    }
+    Ok(())
+}
+
+// The document of one rule of two variables, with this condition.
+fn rule_with(alloc: Global, condition: &str) -> Result<Doc, Fault> {
+    let rule = format!(in alloc; "Forall ?x ?y (If {condition} Then Do(Assert(_p())))")?;
+    doc_of(alloc, rule.as_str())
+}
+
+// Appends the rows that extend a row and satisfy the document's conditions.
+fn show_longer(
+    alloc: Global,
+    out: &mut Vec<u8>,
+    facts: &Facts,
+    doc: &Doc,
+    row: &Binding,
+) -> Result<(), Fault> {
+    for rule in doc.rules.as_slice() {
+        if let Some(condition) = &rule.condition {
+            for longer in matches(alloc, facts, row, condition)?.as_slice() {
+                show_row(alloc, out, longer)?;
+            }
+        }
+    }
+    Ok(())
+}
+
+/// Two rules, of which the second has the higher priority.
+static RULES: &str = "Forall ?x (If ?x # _C Then Do(Assert(_q(?x)))) \
+    Group 5 (Forall ?x (If _p(?x) Then Do(Assert(_r(?x)))))";
+
+/// The conflict sets of histories that stay at one state, where each chosen instance is picked: the instances with
+/// their ages, and those that are refracted.
+static HISTORY: &[&str] = &[
+    "1 1:_x, 1 1:_y, 1 2:_x, ",
+    "2 1:_x, 2 1:_y, !2 2:_x, ",
+    "!3 1:_x, 3 1:_y, !3 2:_x, ",
+    "!4 1:_x, !4 1:_y, !4 2:_x, ",
+];
+
+#[test]
+fn a_history_marks_its_instances_and_one_is_chosen(rt: HostRuntime) -> Result<(), Fail> {
+    let alloc = rt.alloc();
+    let doc = doc_of(alloc, RULES)?;
+    let facts = facts_of(alloc, STATE)?;
+    let mut history = Plain::start(alloc, &doc)?;
+    for wanted in HISTORY {
+        let pick = choose_plain(alloc, &doc, &history)?;
+        history.push(alloc, &doc, &facts, pick)?;
+        let shown = history_text(alloc, &history)?;
+        assert_eq!(rt; str::from_utf8(shown.as_slice())?, *wanted);
+    }
+    assert!(rt; choose_plain(alloc, &doc, &history)?.is_none());
+    Ok(())
+}
+
+#[test]
+fn a_candidate_is_copied(rt: HostRuntime) -> Result<(), Fail> {
+    let alloc = rt.alloc();
+    let facts = facts_of(alloc, STATE)?;
+    for instance in list_instances(alloc, &doc_of(alloc, RULES)?, &facts)?.into_vec() {
+        let candidate = Candidate {
+            instance,
+            priority: -1,
+            age: 2,
+        };
+        let copy = candidate.copy()?;
+        assert_eq!(rt; copy.instance, candidate.instance);
+        assert_eq!(rt; (copy.priority, copy.age), (-1, 2));
+    }
+    Ok(())
+}
