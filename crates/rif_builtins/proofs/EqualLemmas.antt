@@ -16,8 +16,7 @@ use Rattle.rif_builtins.specs.Extensions.{match_term, equal_row}
 use Rattle.rif_builtins.specs.ExtensionLaws.{variables_in, IsExtension, IsEquating, IsEqualityExact}
 use Rattle.rif_builtins.specs.Values.{value_of}
 use Rattle.rif_builtins.proofs.PatternLemmas.{variable_value, kept_value, if_some, Gives, term_gives, found_term}
-use Rattle.rif_builtins.proofs.PatternLemmas.{some_const}
-use Rattle.rif_builtins.proofs.RowLemmas.{value_has, Keeps, extends_itself, extends_same, same_extension}
+use Rattle.rif_builtins.proofs.RowLemmas.{some_same, value_has, Keeps, extends_itself, extends_same, same_extension}
 
 -- ---- which side is ready
 
@@ -147,7 +146,7 @@ side_found : (t other : Term) (row next : Row) (c d : Const) (vs all : List ℕ)
     → IsExtension row all next → match_term row t d ≡ Some next
 side_found t other row next c d vs all here called whole is one two same e =
     let us = variables_of t in
-    let alike : c ≡ d = some_const c d (sym two ∙ bound_keeps other row next d vs here e.values whole is) in
+    let alike : c ≡ d = some_same c d (sym two ∙ bound_keeps other row next d vs here e.values whole is) in
     let found = found_term t row next d vs here e.values called (one ∙ ap Some alike) in
     let gives = subst (λ o. IfSome o (Gives row (vs ++ us) t d)) found.1 (term_gives t row d vs here called) in
     found.1

@@ -14,6 +14,7 @@ use Rattle.rif_values.specs.Sets.{ordered}
 use Rattle.rif_values.proofs.CallerLemmas.{total_bindings, exact_bindings}
 use Rattle.rif_sets.proofs.CallerLemmas.{set_ordered, has_ordered}
 use Rattle.rif_tree.specs.declared.builtin.Pred.{Pred}
+use Rattle.rif_tree.proofs.CallerLemmas.{and_first, and_second, or_first, or_second}
 use Rattle.rif_tree.specs.declared.tree.Term.{Term}
 use Rattle.rif_tree.specs.declared.tree.Formula.{Formula, map-Formula, roll-Formula}
 use Rattle.rif_tree.specs.declared.tree.Formula.TheVariants.{And, Or, Not, Exists, Equal, Member, Frame, Atom, Holds}
@@ -96,14 +97,6 @@ passes_from next o is = ap (passes (is_row next)) is ∙ row_itself next
 both_true : (a b : Bool) → a ≡ true → b ≡ true → (a && b) ≡ true
 both_true a b first second = ap₂ (λ x y. x && y) first second
 
-first_true : (a b : Bool) → (a && b) ≡ true → a ≡ true
-first_true true b is = refl
-first_true false b is = absurd (cc is)
-
-second_true : (a b : Bool) → (a && b) ≡ true → b ≡ true
-second_true true b is = is
-second_true false b is = absurd (cc is)
-
 -- the rows that pass a test
 filter_has : (keeps : Row → Bool) (rows : List Row) (next : Row)
     → Contains (filter keeps rows) next ↔ (Contains rows next × (keeps next ≡ true))
@@ -111,9 +104,9 @@ filter_has keeps rows next =
     let by = row_by (filter keeps rows) next (λ row. keeps row && is_row next row) rows
     (any_filter (is_row next) keeps rows) in (
       λ there. let found = by.0 there in
-          let same = row_same next found.0 (second_true (keeps found.0) (is_row next found.0) found.2) in (
+          let same = row_same next found.0 (and_second (keeps found.0) (is_row next found.0) found.2) in (
             subst (λ row. Contains rows row) (sym same) found.1,
-            subst (λ row. keeps row ≡ true) (sym same) (first_true (keeps found.0) (is_row next found.0) found.2),
+            subst (λ row. keeps row ≡ true) (sym same) (and_first (keeps found.0) (is_row next found.0) found.2),
           ),
       λ both. by.1 (next, both.0, both_true (keeps next) (is_row next next) both.1 (row_itself next)),
     )
@@ -260,13 +253,6 @@ either : (a b : Bool) → (a || b) ≡ true → (a ≡ true) ⊎ (b ≡ true)
 either true b is = inl refl
 either false b is = inr is
 
-or_left : (a b : Bool) → a ≡ true → (a || b) ≡ true
-or_left a b is = ap (λ c. c || b) is
-
-or_right : (a b : Bool) → b ≡ true → (a || b) ≡ true
-or_right true b is = refl
-or_right false b is = is
-
 pub is_of_both : IsOfBoth
 is_of_both base f xs ys next =
     let test = is_row next in
@@ -289,8 +275,8 @@ is_of_both base f xs ys next =
     turn a b to also (inr is) = inr (also is)
 
     back : {A B : Type 0} (a b : Bool) → (A → a ≡ true) → (B → b ≡ true) → A ⊎ B → (a || b) ≡ true
-    back a b to also (inl is) = or_left a b (to is)
-    back a b to also (inr is) = or_right a b (also is)
+    back a b to also (inl is) = or_first a b (to is)
+    back a b to also (inr is) = or_second a b (also is)
 
 -- ---- extensions are a set
 

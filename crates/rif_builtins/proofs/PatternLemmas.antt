@@ -33,7 +33,7 @@ use Rattle.rif_builtins.specs.ExtensionLaws.{IsMatchingExact}
 use Rattle.rif_builtins.specs.Values.{value_of, value_step, values_of, all_of, call_value}
 use Rattle.rif_builtins.proofs.RowLemmas.{is_there, has_is_there, value_has, value_bound, value_bound_here, Keeps}
 use Rattle.rif_builtins.proofs.RowLemmas.{extends_itself, extends_same, extends_on, extends_bound, same_extension}
-use Rattle.rif_builtins.proofs.RowLemmas.{same_within}
+use Rattle.rif_builtins.proofs.RowLemmas.{same_within, some_same}
 
 -- ---- constants
 
@@ -249,14 +249,6 @@ keeps_bound_to row next v c none keeps here u d is = at (v == u) refl
     at false one =
         keeps u d (sym (ap (λ b. cond b (Some c) (value_at row u)) one) ∙ sym (value_bound row v c u none) ∙ is)
 
-or_const : Const → Option Const → Const
-or_const c None = c
-or_const c (Some d) = d
-
-pub some_const : (c d : Const) → Some c ≡ Some d → c ≡ d
-unfolding or_const
-some_const c d same = ap (or_const c) same
-
 found_bound : (row next : Row) (v : ℕ) (c : Const) → Keeps row next → value_at next v ≡ Some c
     → Found (binding_to row v (value_at row v) c) next
 found_bound row next v c keeps here = at (value_at row v) refl
@@ -264,7 +256,7 @@ found_bound row next v c keeps here = at (value_at row v) refl
     at : (o : Option Const) → value_at row v ≡ o → Found (binding_to row v o c) next
     at None none = (bound row v c, refl, keeps_bound_to row next v c none keeps here)
     at (Some d) is =
-        let same : d ≡ c = some_const d c (sym (keeps v d is) ∙ here) in
+        let same : d ≡ c = some_same d c (sym (keeps v d is) ∙ here) in
         (row, ap (λ b. cond b (Some row) None) (ap (λ x. same_const x c) same ∙ const_itself c), keeps)
 
 pub found_term : (t : Term) (row next : Row) (c : Const) (vs : List ℕ) → IsExtension row vs row → Keeps row next

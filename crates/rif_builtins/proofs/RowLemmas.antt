@@ -214,7 +214,7 @@ or_first_value : Const → Option Const → Const
 or_first_value c None = c
 or_first_value c (Some d) = d
 
-some_same : (c d : Const) → Some c ≡ Some d → c ≡ d
+pub some_same : (c d : Const) → Some c ≡ Some d → c ≡ d
 unfolding or_first_value
 some_same c d same = ap (or_first_value c) same
 
