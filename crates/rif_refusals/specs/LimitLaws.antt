@@ -3,7 +3,8 @@
 -- Source: the project's own (docs/FORMATS.md, "Limits").
 use Rattle.std.specs.Prelude.{◌≡◌, pos}
 use Rattle.rif_refusals.specs.declared.limits.TheConstants.{MOST_INPUT_BYTES, MOST_OPEN_BRACKETS, MOST_RULES}
-use Rattle.rif_refusals.specs.declared.limits.TheConstants.{MOST_VARIABLES, MOST_PATTERNS, MOST_ACTIONS, MOST_BRANCHES}
+use Rattle.rif_refusals.specs.declared.limits.TheConstants.{MOST_VARIABLES, MOST_PATTERNS, MOST_ACTIONS}
+use Rattle.rif_refusals.specs.declared.limits.TheConstants.{MOST_BRANCHES}
 use Rattle.rif_refusals.specs.declared.limits.TheConstants.{MOST_PRIORITY, MOST_BUDGETS, MOST_ITEMS, MOST_CLIENTS}
 use Rattle.rif_refusals.specs.declared.limits.TheConstants.{MOST_NAME_CHARACTERS, MOST_BATCH_ITEMS}
 use Rattle.rif_refusals.specs.Limits.{most_input_bytes, most_open_brackets, most_rules, most_variables, most_patterns}
