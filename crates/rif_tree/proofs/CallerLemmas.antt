@@ -1,7 +1,7 @@
 -- Lemmas for callers: what is among some variables, and the words for variables at each form of terms and formulas.
 use Rattle.std.proofs.Common.{◌≡◌, ℕ, Bool, true, false, not, ◌&&◌, ◌||◌, ◌==◌, List, [], ◌∷◌, ◌++◌, Some, None}
-use Rattle.std.proofs.Common.{cond, filter, map, ap, ap₂, ◌∙◌, sym, refl, subst, arith}
-use Rattle.std.specs.List.{list_any, list_all, flat_map}
+use Rattle.std.proofs.Common.{cond, map, ap, ap₂, ◌∙◌, sym, refl, subst, arith}
+use Rattle.std.specs.List.{flat_map}
 use Rattle.std.specs.declared.option.Option.{Option}
 use Rattle.std.proofs.lemmas.Bool.Decides.{nat_tests}
 use Rattle.std.proofs.lemmas.List.Folds.{list_any-append, flat_map-map}
@@ -9,7 +9,7 @@ use Rattle.rif_tree.specs.declared.builtin.Func.{Func}
 use Rattle.rif_tree.specs.declared.tree.Term.{Term, map-Term, roll-Term}
 use Rattle.rif_tree.specs.declared.tree.Term.TheOpen.{Term-F, Const as ConstLayer, Var as VarLayer, Call as CallLayer}
 use Rattle.rif_tree.specs.declared.tree.Term.TheVariants.{Call, rolls-Call}
-use Rattle.rif_tree.specs.declared.tree.Term.TheFolds.{fold-Term, fold-roll-Term, ind-Term}
+use Rattle.rif_tree.specs.declared.tree.Term.TheFolds.{fold-roll-Term, ind-Term}
 use Rattle.rif_tree.specs.declared.tree.Formula.{Formula, map-Formula, roll-Formula}
 use Rattle.rif_tree.specs.declared.tree.Formula.TheOpen.{Formula-F, And as AndLayer, Or as OrLayer, Not as NotLayer}
 use Rattle.rif_tree.specs.declared.tree.Formula.TheOpen.{Exists as ExistsLayer}

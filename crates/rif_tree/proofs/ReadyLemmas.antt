@@ -1,6 +1,6 @@
 -- What is ready stays ready where more is bound, so that readiness goes by which variables are bound.
 use Rattle.std.proofs.Common.{◌≡◌, ℕ, Bool, true, false, not, ◌&&◌, ◌||◌, List, [], ◌∷◌, ◌++◌, Some, None}
-use Rattle.std.proofs.Common.{map, ap, ap₂, ◌∙◌, sym, refl, subst, arith}
+use Rattle.std.proofs.Common.{map, ap, ap₂, ◌∙◌, sym, refl, subst}
 use Rattle.std.specs.List.{list_all, flat_map}
 use Rattle.std.specs.declared.option.Option.{Option}
 use Rattle.rif_tree.specs.declared.tree.Term.{Term}
@@ -10,7 +10,7 @@ use Rattle.rif_tree.specs.declared.tree.Formula.TheOpen.{Exists as ExistsLayer, 
 use Rattle.rif_tree.specs.declared.tree.Formula.TheOpen.{Member as MemberLayer, Frame as FrameLayer}
 use Rattle.rif_tree.specs.declared.tree.Formula.TheOpen.{Atom as AtomLayer, Holds as HoldsLayer}
 use Rattle.rif_tree.specs.declared.tree.Formula.TheFolds.{fold-roll-Formula, ind-Formula}
-use Rattle.rif_tree.specs.Laws.{AreSame, AreAmong, IsReadinessGrowing, IsReadinessOfMembers}
+use Rattle.rif_tree.specs.Laws.{AreAmong, IsReadinessGrowing, IsReadinessOfMembers}
 use Rattle.rif_tree.specs.Ready.{Part, part_of, part_step, free_in, each_ready, branch_ready, pattern_ready}
 use Rattle.rif_tree.specs.Ready.{slots_ready, equal_ready, is_unbound_in, is_unbound_variable, is_ready}
 use Rattle.rif_tree.specs.Variables.{has_variable, has_all, variable_of, variables_of, called_variables_of}
