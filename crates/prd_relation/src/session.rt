@@ -2,7 +2,9 @@ ghost use Rattle.std.specs.Prelude.{◌≡◌, ◌≤◌, ◌^◌};
 
 use crate::choosing::choose_plain;
 use crate::plain::Plain;
-use crate::steps::{block_of_instance, changes_of, effect_of, ending, facts_after, made_after, state_after};
+use crate::steps::{
+    block_of_instance, changes_of, effect_of, ending, facts_after, made_after, state_after,
+};
 use rif_facts::Facts;
 use rif_tree::Doc;
 use rif_values::{Instance, OutOfMemory};

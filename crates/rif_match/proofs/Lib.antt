@@ -2,4 +2,3 @@ pub mod CallerLemmas
 pub mod ConflictSetLemmas
 pub mod ListingLemmas
 pub mod MembershipLemmas
-pub mod ThroughLemmas

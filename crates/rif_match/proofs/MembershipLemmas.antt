@@ -50,11 +50,11 @@ row_here n [] i same there = absurd (cc there)
 row_here n (row ∷ rows) i same there =
     elim (either (eq_by_cmp binding_cmp i.row row) (has binding_cmp rows i.row) there) [
       | inl here ↦
-        let is = equal_is total_bindings exact_bindings i.row row here in
-        let rest = has instance_cmp (map (instance_of n) rows) i in
-        ap (λ (m : ℕ). is_eq (ordering_then (nat_cmp m n) (binding_cmp i.row row)) || rest) same
-            ∙ ap (λ (r : Row). is_eq (ordering_then (nat_cmp n n) (binding_cmp r row)) || rest) is
-            ∙ ap (λ b. b || rest) (equal_itself total_instances exact_instances (instance_of n row))
+          let is = equal_is total_bindings exact_bindings i.row row here in
+          let rest = has instance_cmp (map (instance_of n) rows) i in
+          ap (λ (m : ℕ). is_eq (ordering_then (nat_cmp m n) (binding_cmp i.row row)) || rest) same
+          ∙ ap (λ (r : Row). is_eq (ordering_then (nat_cmp n n) (binding_cmp r row)) || rest) is
+          ∙ ap (λ b. b || rest) (equal_itself total_instances exact_instances (instance_of n row))
       | inr later ↦ let rest = row_here n rows i same later in grind (arith, rest)
     ]
 
@@ -72,11 +72,11 @@ from_there n (rule ∷ rules) base i there =
     let split = sym (has_append total_instances exact_instances (map (instance_of n) (rows_of base rule))
     (instances_from (suc n) rules base) i) ∙ there in
     elim (either (has instance_cmp (map (instance_of n) (rows_of base rule)) i)
-        (has instance_cmp (instances_from (suc n) rules base) i) split) [
+    (has instance_cmp (instances_from (suc n) rules base) i) split) [
       | inl here ↦ let row = row_there n (rows_of base rule) i here in
-        (0, rule, (let is = row.0 in omega (arith, is)), refl, row.1)
+          (0, rule, (let is = row.0 in omega (arith, is)), refl, row.1)
       | inr later ↦ let rest = from_there (suc n) rules base i later in
-        (suc rest.0, rest.1, (let is = rest.2 in omega (arith, is)), rest.3, rest.4)
+          (suc rest.0, rest.1, (let is = rest.2 in omega (arith, is)), rest.3, rest.4)
     ]
 
 from_here : (n : ℕ) (rules : List Rule) (base : FactBase) (i : Instance) (place : ℕ) (rule : Rule)

@@ -6,7 +6,7 @@ use Rattle.rif_values.specs.Bindings.{Row}
 use Rattle.rif_builtins.specs.Extensions.{base_of, in_turn, through}
 use Rattle.rif_match.specs.ConflictSet.{condition_of}
 use Rattle.rif_match.proofs.ListingLemmas.{in_turn_both, ordered_rows}
-use Rattle.rif_match.proofs.ThroughLemmas.{through_and}
+use Rattle.rif_builtins.proofs.CallerLemmas.{through_and}
 use Rattle.rif_match.proofs.listing.rows_satisfying.Goals as goal
 
 pub returns : goal.returns
