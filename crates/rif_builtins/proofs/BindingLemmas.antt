@@ -30,7 +30,7 @@ use Rattle.rif_tree.proofs.CallerLemmas.{and_first, and_second, same_tests}
 use Rattle.rif_tree.proofs.CallerLemmas.{has_append}
 use Rattle.rif_tree.proofs.CallerLemmas.{has_all_elim, has_all_intro, has_all_append, has_all_more, among_front}
 use Rattle.rif_tree.proofs.CallerLemmas.{among_back, among_append, has_without}
-use Rattle.rif_tree.proofs.FreeLemmas.{part_free}
+use Rattle.rif_tree.proofs.CallerLemmas.{part_free}
 use Rattle.rif_builtins.specs.declared.pattern.Pattern.{Pattern}
 use Rattle.rif_builtins.specs.declared.pattern.Pattern.TheVariants.{Atom as AtomPattern, Slot as SlotPattern}
 use Rattle.rif_builtins.specs.declared.pattern.Pattern.TheVariants.{Member as MemberPattern}

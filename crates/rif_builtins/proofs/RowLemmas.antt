@@ -5,7 +5,7 @@ use Rattle.std.specs.declared.option.Option.{Option}
 use Rattle.std.proofs.lemmas.Bool.Decides.{nat_tests}
 use Rattle.rif_values.specs.declared.constant.Const.{Const}
 use Rattle.rif_values.specs.Bindings.{Row, RisesFrom, IsBinding, value_at, bound, without_variables}
-use Rattle.rif_values.proofs.BoundLemmas.{binding_bound, binding_filter}
+use Rattle.rif_values.proofs.CallerLemmas.{binding_bound, binding_filter}
 use Rattle.rif_tree.specs.Laws.{AreSame, AreAmong}
 use Rattle.rif_tree.specs.Variables.{has_variable, has_all, without}
 use Rattle.rif_tree.proofs.CallerLemmas.{same_tests, or_first, or_either, has_append, has_all_elim, has_without}

@@ -20,6 +20,7 @@ use Rattle.rif_tree.specs.Laws.{AreSame, AreAmong}
 use Rattle.rif_tree.specs.Ready.{Part, part_of, part_step}
 use Rattle.rif_tree.specs.Variables.{has_variable, has_all, without, variable_of, variable_step, variables_of}
 use Rattle.rif_tree.specs.Variables.{variables_step, free_of, free_step}
+pub use Rattle.rif_tree.proofs.FreeLemmas.{part_free}
 
 -- ---- tests of two parts
 
