@@ -4,15 +4,15 @@
 //! rif_sets, rif_tree and rif_refusals. Here are their public names together, and their tests.
 #![tactic(auto)]
 
-pub use rif_refusals::limits;
-pub use rif_refusals::{Counted, Fault, Refusal};
-pub use rif_sets::set_laws;
-pub use rif_sets::{find_in_set, sorted_set};
+pub use rif_refusals::{Counted, Fault, Refusal, limits, limits_are_the_stated_ones};
+pub use rif_sets::{find_in_set, set_laws, sorted_set};
 pub use rif_tree::{Action, Decl, Doc, Formula, Func, Level, Pred, Rule, Target, Term};
-pub use rif_values::{Binding, Change, Const, Delta, Fact, Instance, Listed, OutOfMemory, RowDelta, Text};
-pub use rif_values::{GREATEST_INTEGER, Integer, LEAST_INTEGER};
-pub use rif_values::{derived_orders_are_the_stated_ones, orders_are_total, orders_tell_all_apart};
-pub use rif_values::{push_const, push_fact, write_const, write_fact};
+pub use rif_values::{
+    Binding, Change, Const, Delta, Fact, GREATEST_INTEGER, Instance, Integer, LEAST_INTEGER,
+    Listed, OutOfMemory, RowDelta, Shared, Text, are_same, derived_orders_are_the_stated_ones, nth,
+    orders_are_total, orders_tell_all_apart, pairs_with, push_const, push_fact, write_const,
+    write_fact,
+};
 
 #[cfg(test)]
 mod tests;

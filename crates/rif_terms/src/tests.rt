@@ -3,6 +3,7 @@ mod copies;
 mod lists;
 mod orders;
 mod refusals;
+mod rows;
 mod texts;
 mod written;
 mod written_out;

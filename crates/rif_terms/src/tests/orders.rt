@@ -1,10 +1,12 @@
-//! The orders, as lists of values that rise.
+//! The orders, as lists of values that rise, and hashes.
 use super::written::WrittenConst::{Bool, Fresh, Int, Iri, Local, Str};
 use super::written::WrittenFact::{Atom, Frame, Member};
 use super::written::{WrittenConst, WrittenFact, binding, consts, facts};
 use crate::{Binding, Const, Fact, Instance, OutOfMemory};
 use std::alloc::Global;
 use std::cmp::Ordering;
+use std::collections::HashSet;
+use std::hash::Hash;
 use std::process::Abort;
 use std::test::Fail;
 
@@ -101,6 +103,23 @@ impl Compared for Instance {
     }
 }
 
+// Asserts that each value is found in the set of all of them by an equal one.
+fn are_keys<T: Hash + Drop>(
+    rt: &impl Abort,
+    alloc: Global,
+    values: Vec<T>,
+    equal: &[T],
+) -> Result<(), OutOfMemory> {
+    let mut set = HashSet::new(alloc);
+    for value in values {
+        assert!(rt; set.insert(value)?);
+    }
+    for value in equal {
+        assert!(rt; set.contains(value));
+    }
+    Ok(())
+}
+
 // Asserts that each value is below those behind it, above those before it, and equal to itself alone.
 fn rise<T: Compared>(rt: &impl Abort, values: &[T]) {
     for (i, x) in values.iter().enumerate() {
@@ -134,5 +153,23 @@ fn values_have_their_order(rt: HostRuntime) -> Result<(), Fail> {
     rise(&rt, facts(rt.alloc(), FACTS)?.as_slice());
     rise(&rt, bindings(&rt, rt.alloc())?.as_slice());
     rise(&rt, instances(&rt, rt.alloc())?.as_slice());
+    Ok(())
+}
+
+#[test]
+fn values_are_keys(rt: HostRuntime) -> Result<(), Fail> {
+    let alloc = rt.alloc();
+    are_keys(
+        &rt,
+        alloc,
+        facts(alloc, FACTS)?,
+        facts(alloc, FACTS)?.as_slice(),
+    )?;
+    are_keys(
+        &rt,
+        alloc,
+        instances(&rt, alloc)?,
+        instances(&rt, alloc)?.as_slice(),
+    )?;
     Ok(())
 }

@@ -1,5 +1,5 @@
 //! Values for the tests: written down without memory, and made of what was written.
-use crate::{Binding, Const, Fact, Listed, OutOfMemory, Text};
+use crate::{Binding, Const, Fact, OutOfMemory, Shared, Text};
 use std::alloc::Global;
 use std::process::Abort;
 
@@ -37,7 +37,7 @@ impl WrittenFact {
     pub fn make(self, alloc: Global) -> Result<Fact, OutOfMemory> {
         match self {
             WrittenFact::Atom(predicate, arguments) => {
-                let arguments = Listed::from_vec(consts(alloc, arguments)?);
+                let arguments = Shared::from_vec(alloc, consts(alloc, arguments)?)?;
                 Ok(Fact::Atom(predicate.make(alloc)?, arguments))
             }
             WrittenFact::Frame(object, slot, value) => {
@@ -66,22 +66,28 @@ pub fn facts(alloc: Global, written: &[WrittenFact]) -> Result<Vec<Fact>, OutOfM
     Ok(made)
 }
 
-/// The binding of these variables to integers: two at most, which rise.
+/// The binding of these variables, each of which stands once, to integers.
 pub fn binding(
     rt: &impl Abort,
     alloc: Global,
     written: &[(u32, i64)],
 ) -> Result<Binding, OutOfMemory> {
-    match written {
-        [] => Ok(Binding::from_pairs(Listed::new(alloc))),
-        [(var, number)] => {
-            let pairs = vec![in alloc; (*var, Const::Int(*number))]?;
-            Ok(Binding::from_pairs(Listed::from_vec(pairs)))
-        }
-        [(var, number), (next, other)] if var < next => {
-            let pairs = vec![in alloc; (*var, Const::Int(*number)), (*next, Const::Int(*other))]?;
-            Ok(Binding::from_pairs(Listed::from_vec(pairs)))
-        }
-        _ => panic!(rt; "{written:?}"),
+    let mut row = Binding::new(alloc)?;
+    for (var, number) in written {
+        row = row_with(rt, alloc, &row, *var, *number)?;
+    }
+    Ok(row)
+}
+
+fn row_with(
+    rt: &impl Abort,
+    alloc: Global,
+    row: &Binding,
+    var: u32,
+    number: i64,
+) -> Result<Binding, OutOfMemory> {
+    match row.get(var) {
+        Some(_) => panic!(rt; "?{var} stands twice"),
+        None => row.with(alloc, var, &Const::Int(number)),
     }
 }

@@ -55,17 +55,12 @@ fn fact_texts(alloc: Global, written: WrittenFact) -> Result<Vec<u8>, OutOfMemor
 }
 
 #[test]
-fn constants_have_their_text(rt: HostRuntime) -> Result<(), Fail> {
+fn constants_and_facts_have_their_text(rt: HostRuntime) -> Result<(), Fail> {
     for (value, text) in CONSTS {
         let wanted = format!(in rt.alloc(); "|{text}|{text}")?;
         let found = const_texts(rt.alloc(), *value)?;
         assert!(rt; found.as_slice() == wanted.as_bytes(), "{text}");
     }
-    Ok(())
-}
-
-#[test]
-fn facts_have_their_text(rt: HostRuntime) -> Result<(), Fail> {
     for (fact, text) in FACTS {
         let wanted = format!(in rt.alloc(); "|{text}|{text}")?;
         let found = fact_texts(rt.alloc(), *fact)?;

@@ -1,5 +1,5 @@
-use Rattle.rif_values.proofs.OrderLemmas.{const_order_is, exact_consts, total_consts}
-use Rattle.rif_sets.proofs.SetsMembers.{set_ordered}
+use Rattle.rif_values.proofs.CallerLemmas.{const_order_is, exact_consts, total_consts}
+use Rattle.rif_sets.proofs.CallerLemmas.{set_ordered}
 use Rattle.rif_terms.proofs.tests.lists.place_among.Goals as goal
 
 pub find_in_set-requires : goal.find_in_set-requires
