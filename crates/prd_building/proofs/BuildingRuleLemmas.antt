@@ -2,7 +2,7 @@
 use Rattle.std.proofs.Common.{◌≡◌, ℕ, ◌+◌, ◌<◌, ◌≤◌, zero, suc, ℤ, true, false, List, [], ◌∷◌, ◌++◌, length}
 use Rattle.std.proofs.Common.{length-append, Some, None, refl, ap, ◌∙◌, sym, append_assoc, add-one, arith, drop}
 use Rattle.std.proofs.lemmas.List.{drop-drop}
-use Rattle.prd_grammar.specs.declared.leaf.Keyword.TheVariants.{Forall, Such, That, Then, Do}
+use Rattle.rif_tree.specs.declared.keyword.Keyword.TheVariants.{Forall, Such, That, Then, Do}
 use Rattle.prd_grammar.specs.declared.leaf.Leaf.{Leaf}
 use Rattle.prd_grammar.specs.declared.leaf.Leaf.TheVariants.{Key, Open, Close}
 use Rattle.prd_grammar.specs.Trees.{const_int, const_string, const_typed, const_iri, const_curie, const_local}

@@ -8,9 +8,9 @@ use Rattle.rif_tree.specs.declared.builtin.Pred.TheVariants.{NumericEqual}
 use Rattle.rif_values.specs.declared.constant.Const.{Const}
 use Rattle.rif_values.specs.declared.constant.Const.TheVariants.{Int as IntConst, Bool as BoolConst, Str as StrConst}
 use Rattle.rif_values.specs.declared.constant.Const.TheVariants.{Iri as IriConst, Local as LocalConst}
-use Rattle.prd_grammar.specs.declared.leaf.Keyword.TheVariants.{Prefix, Group, Forall, Such, If, Do, New, Retract}
-use Rattle.prd_grammar.specs.declared.leaf.Keyword.TheVariants.{Modify, And, Or, Not, INeg, Exists, External, True}
-use Rattle.prd_grammar.specs.declared.leaf.Builtin.TheVariants.{Func as FuncBuiltin, Pred as PredBuiltin}
+use Rattle.rif_tree.specs.declared.keyword.Keyword.TheVariants.{Prefix, Group, Forall, Such, If, Do, New, Retract}
+use Rattle.rif_tree.specs.declared.keyword.Keyword.TheVariants.{Modify, And, Or, Not, INeg, Exists, External, True}
+use Rattle.rif_tree.specs.declared.builtin.Builtin.TheVariants.{Func as FuncBuiltin, Pred as PredBuiltin}
 use Rattle.prd_grammar.specs.declared.leaf.BuiltinName.TheVariants.{Known}
 use Rattle.prd_grammar.specs.declared.leaf.Leaf.{Leaf}
 use Rattle.prd_grammar.specs.declared.leaf.Leaf.TheVariants.{Key, Int, Str, Typed, Iri, Curie, Builtin, Local, Var}

@@ -10,8 +10,8 @@ ghost use Rattle.prd_building.specs.Signs.{strategy_width, priority_width, leaf_
 ghost use Rattle.prd_building.specs.Signs.{const_width};
 ghost use Rattle.prd_grammar.specs.Values.{literal_value, place_of};
 
-use prd_grammar::{Builtin, BuiltinName, Keyword, Leaf, Literal};
-use rif_tree::{Func, Pred};
+use prd_grammar::{BuiltinName, Leaf, Literal};
+use rif_tree::{Builtin, Func, Keyword, Pred};
 use rif_values::{Const, Integer, OutOfMemory, Text};
 use std::alloc::Global;
 

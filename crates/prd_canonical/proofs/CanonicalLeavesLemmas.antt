@@ -6,8 +6,8 @@ use Rattle.std.proofs.Common.{IsUtf8}
 use Rattle.rif_lex.specs.declared.token.Kind.{Kind}
 use Rattle.rif_lex.specs.declared.token.Kind.TheVariants.{Carets}
 use Rattle.rif_lex.specs.Spelling.{Written, Gap, Spelled}
-use Rattle.prd_grammar.specs.declared.leaf.Keyword.{Keyword}
-use Rattle.prd_grammar.specs.declared.leaf.Keyword.TheVariants.{Prefix, External}
+use Rattle.rif_tree.specs.declared.keyword.Keyword.{Keyword}
+use Rattle.rif_tree.specs.declared.keyword.Keyword.TheVariants.{Prefix, External}
 use Rattle.prd_grammar.specs.declared.leaf.Leaf.{Leaf}
 use Rattle.prd_grammar.specs.declared.leaf.Leaf.TheVariants.{Key, Word as WordLeaf, Open as OpenLeaf}
 use Rattle.prd_grammar.specs.declared.leaf.Leaf.TheVariants.{Carets as CaretsLeaf}

@@ -1,6 +1,6 @@
 -- The canonical tree of a rule stands for the same rule.
 use Rattle.std.proofs.Common.{◌≡◌, ℕ, List, [], ◌∷◌, ◌++◌, refl, ap, ◌∙◌, sym}
-use Rattle.prd_grammar.specs.declared.leaf.Keyword.TheVariants.{Such, That, Then, Do}
+use Rattle.rif_tree.specs.declared.keyword.Keyword.TheVariants.{Such, That, Then, Do}
 use Rattle.prd_grammar.specs.declared.leaf.Leaf.{Leaf}
 use Rattle.prd_grammar.specs.declared.leaf.Leaf.TheVariants.{Key, Var, Close, Open, Arrow, OpenSquare, CloseSquare}
 use Rattle.prd_grammar.specs.declared.leaf.Leaf.TheVariants.{Hash}

@@ -1,7 +1,7 @@
 -- The leaves that actions and blocks of the canonical spelling lead to.
 use Rattle.std.proofs.Common.{ℕ, List, ◌∷◌, map, refl, codes}
 use Rattle.rif_lex.specs.Spelling.{Gap, joined, space, Spelled}
-use Rattle.prd_grammar.specs.declared.leaf.Keyword.TheVariants.{New, Assert, Retract, Modify}
+use Rattle.rif_tree.specs.declared.keyword.Keyword.TheVariants.{New, Assert, Retract, Modify}
 use Rattle.prd_grammar.specs.declared.leaf.Leaf.{Leaf}
 use Rattle.prd_writing.specs.Canonical.{closing, gap_before, listed, spaced, target_spelling, action_spelling}
 use Rattle.prd_writing.specs.Canonical.{decl_spelling}

@@ -20,8 +20,8 @@ use Rattle.rif_lex.specs.declared.token.Kind.{Kind}
 use Rattle.rif_lex.specs.declared.token.Kind.TheVariants.{Int as IntKind, Str as StrKind, Iri as IriKind}
 use Rattle.rif_lex.specs.declared.token.Kind.TheVariants.{Local as LocalKind, Carets}
 use Rattle.rif_lex.specs.Spelling.{Written, Gap, Spelled}
-use Rattle.prd_grammar.specs.declared.leaf.Keyword.TheVariants.{True, False}
-use Rattle.prd_grammar.specs.declared.leaf.Builtin.TheVariants.{Func as FuncBuiltin, Pred as PredBuiltin}
+use Rattle.rif_tree.specs.declared.keyword.Keyword.TheVariants.{True, False}
+use Rattle.rif_tree.specs.declared.builtin.Builtin.TheVariants.{Func as FuncBuiltin, Pred as PredBuiltin}
 use Rattle.prd_grammar.specs.declared.leaf.BuiltinName.TheVariants.{Known}
 use Rattle.prd_grammar.specs.declared.leaf.Leaf.{Leaf}
 use Rattle.prd_grammar.specs.declared.leaf.Leaf.TheVariants.{Int as IntLeaf, Str as StrLeaf, TypeName as TypeLeaf}

@@ -1,8 +1,8 @@
 -- The leaves that formulas of the canonical spelling lead to.
 use Rattle.std.proofs.Common.{ℕ, List, ◌∷◌, map, refl, codes}
 use Rattle.rif_lex.specs.Spelling.{Gap, joined, space, Spelled}
-use Rattle.prd_grammar.specs.declared.leaf.Keyword.TheVariants.{And, Or, Not, Exists}
-use Rattle.prd_grammar.specs.declared.leaf.Builtin.TheVariants.{Pred as PredBuiltin}
+use Rattle.rif_tree.specs.declared.keyword.Keyword.TheVariants.{And, Or, Not, Exists}
+use Rattle.rif_tree.specs.declared.builtin.Builtin.TheVariants.{Pred as PredBuiltin}
 use Rattle.prd_grammar.specs.declared.leaf.Leaf.{Leaf}
 use Rattle.prd_grammar.specs.declared.leaf.Leaf.TheVariants.{Open, Hash}
 use Rattle.prd_writing.specs.Canonical.{closing, gap_before, listed, pred_text, term_spelling, member_spelling}

@@ -4,7 +4,7 @@ use Rattle.std.proofs.Common.{sym, subst, codes, append_assoc, append-nil}
 use Rattle.rif_tree.specs.declared.tree.Level.{Level}
 use Rattle.rif_tree.specs.declared.rule.Rule.{Rule}
 use Rattle.rif_lex.specs.Spelling.{joined, space, line_feed, Spelled}
-use Rattle.prd_grammar.specs.declared.leaf.Keyword.TheVariants.{Document, Group, Forall, Such, That, If, Then, Do}
+use Rattle.rif_tree.specs.declared.keyword.Keyword.TheVariants.{Document, Group, Forall, Such, That, If, Then, Do}
 use Rattle.prd_grammar.specs.declared.leaf.Leaf.{Leaf}
 use Rattle.prd_grammar.specs.declared.leaf.Leaf.TheVariants.{Key, Open, Close}
 use Rattle.prd_writing.specs.Canonical.{word, closing, opening, listed, spaced, formula_spelling, block_spelling}

@@ -1,7 +1,7 @@
 -- The leaves that terms, pairs and variables of the canonical spelling lead to.
 use Rattle.std.proofs.Common.{ℕ, List, ◌∷◌, map}
 use Rattle.rif_lex.specs.Spelling.{Gap, joined, space, Spelled}
-use Rattle.prd_grammar.specs.declared.leaf.Builtin.TheVariants.{Func as FuncBuiltin}
+use Rattle.rif_tree.specs.declared.builtin.Builtin.TheVariants.{Func as FuncBuiltin}
 use Rattle.prd_grammar.specs.declared.leaf.Leaf.{Leaf}
 use Rattle.prd_grammar.specs.declared.leaf.Leaf.TheVariants.{Arrow, OpenSquare}
 use Rattle.prd_writing.specs.Canonical.{closing, close_square, gap_before, listed, spaced, func_text, var_spelling}

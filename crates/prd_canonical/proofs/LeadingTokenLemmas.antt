@@ -6,9 +6,9 @@ use Rattle.std.proofs.lemmas.Str.{IsUtf8-append}
 use Rattle.rif_lex.specs.declared.token.Kind.TheVariants.{Word, Curie, Var, Open, Close, OpenSquare, CloseSquare}
 use Rattle.rif_lex.specs.declared.token.Kind.TheVariants.{Equal, Hash, Arrow}
 use Rattle.rif_lex.specs.Spelling.{Gap, joined, space, Spelled}
-use Rattle.prd_grammar.specs.declared.leaf.Keyword.{Keyword}
-use Rattle.prd_grammar.specs.declared.leaf.Keyword.TheVariants.{External}
-use Rattle.prd_grammar.specs.declared.leaf.Builtin.{Builtin}
+use Rattle.rif_tree.specs.declared.keyword.Keyword.{Keyword}
+use Rattle.rif_tree.specs.declared.keyword.Keyword.TheVariants.{External}
+use Rattle.rif_tree.specs.declared.builtin.Builtin.{Builtin}
 use Rattle.prd_grammar.specs.declared.leaf.BuiltinName.{BuiltinName}
 use Rattle.prd_grammar.specs.declared.leaf.BuiltinName.TheVariants.{Known}
 use Rattle.prd_grammar.specs.declared.leaf.Leaf.{Leaf}

@@ -1,7 +1,7 @@
 -- Where a formula is sound, its canonical tree is.
 use Rattle.std.proofs.Common.{◌≡◌, true, false, List, [], ◌∷◌, refl}
-use Rattle.prd_grammar.specs.declared.leaf.Keyword.TheVariants.{And, Or, Not, Exists}
-use Rattle.prd_grammar.specs.declared.leaf.Builtin.TheVariants.{Pred as PredBuiltin}
+use Rattle.rif_tree.specs.declared.keyword.Keyword.TheVariants.{And, Or, Not, Exists}
+use Rattle.rif_tree.specs.declared.builtin.Builtin.TheVariants.{Pred as PredBuiltin}
 use Rattle.prd_grammar.specs.declared.leaf.Leaf.{Leaf}
 use Rattle.prd_grammar.specs.declared.leaf.Leaf.TheVariants.{Key, Var, Equal, Hash}
 use Rattle.prd_grammar.specs.declared.bracket.Bracket.TheVariants.{Plain}

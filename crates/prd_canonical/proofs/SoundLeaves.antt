@@ -5,7 +5,7 @@
 --     StaySound before behind ls ms        where ls are sound, ms are, each with what these make of the brackets
 use Rattle.std.proofs.Common.{◌≡◌, ◌||◌, Bool, true, false, List, [], ◌∷◌, ◌++◌, refl, sym, subst, append_assoc}
 use Rattle.std.specs.Prelude.{if◌then◌else◌}
-use Rattle.prd_grammar.specs.declared.leaf.Keyword.TheVariants.{Group}
+use Rattle.rif_tree.specs.declared.keyword.Keyword.TheVariants.{Group}
 use Rattle.prd_grammar.specs.declared.leaf.Leaf.{Leaf}
 use Rattle.prd_grammar.specs.declared.leaf.Leaf.TheVariants.{Key, Var, Open, Close, OpenSquare, CloseSquare, Equal}
 use Rattle.prd_grammar.specs.declared.leaf.Leaf.TheVariants.{Hash}

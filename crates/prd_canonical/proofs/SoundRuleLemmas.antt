@@ -1,8 +1,8 @@
 -- Where a rule is sound, its canonical tree is.
 use Rattle.std.proofs.Common.{◌∷◌, refl}
-use Rattle.prd_grammar.specs.declared.leaf.Keyword.TheVariants.{Forall, Such, That, If, Then, Do, New, Assert}
-use Rattle.prd_grammar.specs.declared.leaf.Keyword.TheVariants.{Retract}
-use Rattle.prd_grammar.specs.declared.leaf.Keyword.TheVariants.{Modify}
+use Rattle.rif_tree.specs.declared.keyword.Keyword.TheVariants.{Forall, Such, That, If, Then, Do, New, Assert}
+use Rattle.rif_tree.specs.declared.keyword.Keyword.TheVariants.{Retract}
+use Rattle.rif_tree.specs.declared.keyword.Keyword.TheVariants.{Modify}
 use Rattle.prd_grammar.specs.declared.leaf.Leaf.TheVariants.{Key, Var, Open, Hash, Arrow}
 use Rattle.prd_grammar.specs.Trees.{TargetTree, target_member, target_frame, target_atom, spell_target, ActionTree}
 use Rattle.prd_grammar.specs.Trees.{assert, retract, retract_slot, retract_object, modify, spell_action, ActionTrees}

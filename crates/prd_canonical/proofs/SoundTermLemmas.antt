@@ -1,7 +1,7 @@
 -- Where a term is sound, its canonical tree is.
 use Rattle.std.proofs.Common.{◌≡◌, ℕ, suc, Bool, true, false, List, ◌∷◌, refl}
-use Rattle.prd_grammar.specs.declared.leaf.Builtin.{Builtin}
-use Rattle.prd_grammar.specs.declared.leaf.Builtin.TheVariants.{Func as FuncBuiltin}
+use Rattle.rif_tree.specs.declared.builtin.Builtin.{Builtin}
+use Rattle.rif_tree.specs.declared.builtin.Builtin.TheVariants.{Func as FuncBuiltin}
 use Rattle.prd_grammar.specs.declared.leaf.Literal.{Literal}
 use Rattle.prd_grammar.specs.declared.leaf.Literal.TheVariants.{Integer, Boolean, String, Iri as IriLiteral}
 use Rattle.prd_grammar.specs.declared.leaf.Literal.TheVariants.{Local as LocalLiteral, OfNoType}

@@ -2,7 +2,7 @@
 use Rattle.std.proofs.Common.{◌≡◌, ℕ, ℤ, pos, List, [], ◌∷◌, ◌++◌, subst, sym, Some, None, Ok}
 use Rattle.rif_lex.specs.declared.token.Token.{Token}
 use Rattle.rif_lex.specs.Lexing.{lexed}
-use Rattle.prd_grammar.specs.declared.leaf.Keyword.TheVariants.{Then, Do}
+use Rattle.rif_tree.specs.declared.keyword.Keyword.TheVariants.{Then, Do}
 use Rattle.prd_grammar.specs.declared.leaf.Leaf.TheVariants.{Key, Open, Close}
 use Rattle.prd_leaves.specs.Leaves.{leaves_of}
 use Rattle.prd_grammar.specs.Trees.{spell_vars, spell_formula, spell_block, spell_such, RuleTree, for_all}

@@ -11,10 +11,8 @@ use Rattle.rif_lex.specs.declared.token.Token.{Token}
 use Rattle.rif_lex.specs.Lexing.{lexed}
 use Rattle.rif_lex.specs.Spelling.{Written, written, IsToken}
 use Rattle.rif_lex.proofs.CallerLemmas.{forms_are_tokens}
-use Rattle.prd_grammar.specs.declared.leaf.Keyword.{Keyword}
-use Rattle.prd_grammar.specs.declared.leaf.Keyword.TheVariants.{Document, Prefix, Group, Forall, Such, That, If, Then}
-use Rattle.prd_grammar.specs.declared.leaf.Keyword.TheVariants.{Do, New, Assert, Retract, Modify, And, Or, Not, INeg}
-use Rattle.prd_grammar.specs.declared.leaf.Keyword.TheVariants.{Exists, External, True, False}
+use Rattle.rif_tree.specs.declared.keyword.Keyword.{Keyword}
+use Rattle.rif_tree.specs.Keywords.{keyword_named}
 use Rattle.prd_grammar.specs.declared.leaf.BuiltinName.{BuiltinName}
 use Rattle.prd_grammar.specs.declared.leaf.Leaf.{Leaf}
 use Rattle.prd_grammar.specs.declared.leaf.Leaf.TheVariants.{Key, LeftOut, Builtin as BuiltinLeaf, Curie as CurieLeaf}
@@ -23,6 +21,7 @@ use Rattle.prd_grammar.specs.Prefixes.{Prefixes}
 use Rattle.prd_leaves.specs.Literals.{unescaped}
 use Rattle.prd_leaves.specs.Leaves.{builtin_of, curie_iri, inner, is_behind_prefix, is_behind_external}
 use Rattle.prd_leaves.specs.Leaves.{is_behind_carets, is_type_name, named_leaf, word_leaf, typed_leaf, string_leaf}
+use Rattle.prd_leaves.specs.Leaves.{key_leaf, is_left_out}
 use Rattle.prd_leaves.specs.Leaves.{leaf_of, prefixes_with, leaves_from, leaves_of}
 use Rattle.prd_leaves.specs.LeafSteps.{IsTokenOf}
 use Rattle.prd_canonical.specs.WritableLeaves.{IsWritableLeaf, AreWritableLeaves, AreIriPrefixes, AreTextTokens}
@@ -36,41 +35,16 @@ use Rattle.prd_canonical.proofs.WritableLiteralLemmas.{writable_literal}
 record IsFit (l : Leaf) : Type 0 where
   fit : IsWritableLeaf l
 
-key : (t word : List ℕ) (k : Keyword) (other : Leaf) → IsFit other →
-    IsFit (if bytes_eq t word then Key k else other)
-key t word k other more = elim (bytes_eq t word) as (λ v. IsFit (if v then Key k else other)) [
-  | true ↦ record { fit = tt }
-  | false ↦ more
-]
-
 left_out : (test : Bool) (t : List ℕ) → IsFit (cond test LeftOut (WordLeaf t))
 left_out true t = record { fit = tt }
 left_out false t = record { fit = tt }
 
+key : (keyword : Option Keyword) (t : List ℕ) → IsFit (key_leaf keyword t)
+key (Some keyword) t = record { fit = tt }
+key None t = left_out (is_left_out t) t
+
 word : (t : List ℕ) → IsFit (word_leaf t)
-word t =
-    key t (codes "Document") Document _
-    (key t (codes "Prefix") Prefix _
-    (key t (codes "Group") Group _
-    (key t (codes "Forall") Forall _
-    (key t (codes "such") Such _
-    (key t (codes "that") That _
-    (key t (codes "If") If _
-    (key t (codes "Then") Then _
-    (key t (codes "Do") Do _
-    (key t (codes "New") New _
-    (key t (codes "Assert") Assert _
-    (key t (codes "Retract") Retract _
-    (key t (codes "Modify") Modify _
-    (key t (codes "And") And _
-    (key t (codes "Or") Or _
-    (key t (codes "Not") Not _
-    (key t (codes "INeg") INeg _
-    (key t (codes "Exists") Exists _
-    (key t (codes "External") External _
-    (key t (codes "true") True _
-    (key t (codes "false") False _
-    (left_out _ t)))))))))))))))))))))
+word t = key (keyword_named t) t
 
 word_by : (test : Bool) (t : List ℕ) → IsWritableLeaf (cond test (WordLeaf t) (word_leaf t))
 word_by true t = tt

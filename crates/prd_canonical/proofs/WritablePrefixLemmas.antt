@@ -6,7 +6,8 @@ use Rattle.std.specs.Prelude.{Option, codes}
 use Rattle.rif_lex.specs.Forms.{IsCurie}
 use Rattle.prd_grammar.specs.declared.leaf.Leaf.{Leaf}
 use Rattle.prd_grammar.specs.declared.leaf.Leaf.TheVariants.{Word as WordLeaf, Iri as IriLeaf}
-use Rattle.prd_grammar.specs.Prefixes.{Prefixes, xs_namespace, rif_namespace, pred_namespace, func_namespace}
+use Rattle.prd_grammar.specs.Prefixes.{Prefixes, xs_namespace, rif_namespace}
+use Rattle.rif_tree.specs.BuiltinNames.{pred_namespace, func_namespace}
 use Rattle.prd_grammar.specs.Prefixes.{meaning_beforehand, meaning_in, with_prefix}
 use Rattle.prd_leaves.specs.Leaves.{before_colon, followed_by, curie_iri, prefixes_with}
 use Rattle.prd_grammar.specs.Values.{text_or}

@@ -2,12 +2,10 @@
 use crate::excerpt::push_name;
 use crate::spot::Spot;
 use itoa::Buffer;
-use prd_grammar::{Builtin, BuiltinName, Leaf};
+use prd_grammar::{BuiltinName, Leaf};
 use prd_recognition::is_term;
+use rif_tree::{Arity, Builtin};
 use rif_values::OutOfMemory;
-
-// Above the number of arguments that any built-in takes.
-const TOO_MANY_ARGUMENTS: u64 = 64;
 
 /// A call of a built-in, as far as its arguments have come.
 #[derive(Clone, Copy)]
@@ -58,7 +56,7 @@ fn count_of_terms(leaves: &[Leaf]) -> u64 {
 }
 
 fn push_arguments(out: &mut Vec<u8>, builtin: Builtin) -> Result<(), OutOfMemory> {
-    let (least, most) = numbers_of(builtin);
+    let Arity { least, most } = builtin.arity();
     push_number(out, least)?;
     if least < most {
         out.extend_from_slice(b" to ")?;
@@ -70,19 +68,6 @@ fn push_arguments(out: &mut Vec<u8>, builtin: Builtin) -> Result<(), OutOfMemory
         b" arguments"
     })?;
     Ok(())
-}
-
-// The least and the greatest number of arguments that a built-in takes.
-fn numbers_of(builtin: Builtin) -> (u64, u64) {
-    let mut least = TOO_MANY_ARGUMENTS;
-    let mut most = 0;
-    for count in 0..TOO_MANY_ARGUMENTS {
-        if builtin.takes(count) {
-            least = least.min(count);
-            most = count;
-        }
-    }
-    (least, most)
 }
 
 fn push_number(out: &mut Vec<u8>, number: u64) -> Result<(), OutOfMemory> {

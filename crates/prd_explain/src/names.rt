@@ -2,10 +2,11 @@
 use crate::excerpt::push_name;
 use crate::expected::wanted_behind;
 use crate::spot::Spot;
-use prd_grammar::{BuiltinName, Leaf, builtin_named, func_named, pred_named};
+use prd_grammar::Leaf;
 use prd_leaves::{Prefixes, behind_colon, inner};
 use prd_recognition::advance;
 use rif_lex::Kind;
+use rif_tree::{Builtin, Func, Pred};
 use rif_values::OutOfMemory;
 use std::alloc::Global;
 
@@ -31,14 +32,7 @@ fn is_behind_builtin(alloc: Global, leaves: &[Leaf]) -> Result<bool, OutOfMemory
 }
 
 fn is_builtin(iri: &[u8]) -> bool {
-    is_known(builtin_named(iri))
-}
-
-fn is_known(name: BuiltinName) -> bool {
-    match name {
-        BuiltinName::Known(_) => true,
-        _ => false,
-    }
+    Builtin::named(iri).is_some()
 }
 
 /// The built-in of the same name in another namespace, if there is one.
@@ -79,9 +73,9 @@ fn behind_hash(iri: &[u8]) -> &[u8] {
 
 // The prefix under which there is a built-in of this name, where the document leaves the prefix its meaning.
 fn prefix_of(alloc: Global, prefixes: &Prefixes, name: &[u8]) -> Option<&'static [u8]> {
-    let prefix = if is_known(func_named(name)) {
+    let prefix = if Func::named(name).is_some() {
         "func".as_bytes()
-    } else if is_known(pred_named(name)) {
+    } else if Pred::named(name).is_some() {
         "pred".as_bytes()
     } else {
         return None;

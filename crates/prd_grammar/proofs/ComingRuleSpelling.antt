@@ -1,7 +1,7 @@
 -- The leaves of a tree and others behind them, as one list that is built from its end: actions, rules and documents.
 use Rattle.std.proofs.Common.{◌≡◌, List, [], ◌∷◌, ◌++◌, refl, ap, ◌∙◌, append-nil}
-use Rattle.prd_grammar.specs.declared.leaf.Keyword.TheVariants.{Document, Prefix, Group, Forall, Such, That, If, Then}
-use Rattle.prd_grammar.specs.declared.leaf.Keyword.TheVariants.{Do, New, Assert, Retract, Modify}
+use Rattle.rif_tree.specs.declared.keyword.Keyword.TheVariants.{Document, Prefix, Group, Forall, Such, That, If, Then}
+use Rattle.rif_tree.specs.declared.keyword.Keyword.TheVariants.{Do, New, Assert, Retract, Modify}
 use Rattle.prd_grammar.specs.declared.leaf.Leaf.{Leaf}
 use Rattle.prd_grammar.specs.declared.leaf.Leaf.TheVariants.{Key, Word, Int, Iri, Curie, Var, Open, Close, OpenSquare}
 use Rattle.prd_grammar.specs.declared.leaf.Leaf.TheVariants.{CloseSquare, Hash, Arrow}

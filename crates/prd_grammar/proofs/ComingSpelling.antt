@@ -1,7 +1,7 @@
 -- The leaves of a term or a formula and others behind them, as one list that is built from its end. What is built so
 -- needs no law of appending; `put_.._is` says that it is the spelling, appended.
 use Rattle.std.proofs.Common.{◌≡◌, List, [], ◌∷◌, ◌++◌, refl, ap, ◌∙◌, sym, append_assoc}
-use Rattle.prd_grammar.specs.declared.leaf.Keyword.TheVariants.{And, Or, Exists, External, True, False}
+use Rattle.rif_tree.specs.declared.keyword.Keyword.TheVariants.{And, Or, Exists, External, True, False}
 use Rattle.prd_grammar.specs.declared.leaf.Leaf.{Leaf}
 use Rattle.prd_grammar.specs.declared.leaf.Leaf.TheVariants.{Key, Int, Str, Typed, TypeName, Iri, Curie, Local, Var}
 use Rattle.prd_grammar.specs.declared.leaf.Leaf.TheVariants.{Open, Close, OpenSquare, CloseSquare, Equal, Hash, Arrow}

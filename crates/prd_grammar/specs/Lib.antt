@@ -1,5 +1,4 @@
 pub mod Prefixes
-pub mod Builtins
 pub mod Trees
 pub mod Values
 pub mod Progress

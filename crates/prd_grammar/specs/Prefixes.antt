@@ -4,6 +4,7 @@
 --     with_prefix prefixes name iri  the prefixes with one more declaration, which is the name's last meaning
 -- Source: the project's own (docs/FORMATS.md, "Names").
 use Rattle.std.specs.Prelude.{ℕ, if◌then◌else◌, List, [], ◌∷◌, Option, Some, None, codes, bytes_eq}
+use Rattle.rif_tree.specs.BuiltinNames.{func_namespace, pred_namespace}
 
 abbrev pub Prefixes : Type 0
 Prefixes = List (List ℕ × List ℕ)
@@ -13,12 +14,6 @@ xs_namespace = codes "http://www.w3.org/2001/XMLSchema#"
 
 abbrev pub rif_namespace : List ℕ
 rif_namespace = codes "http://www.w3.org/2007/rif#"
-
-abbrev pub pred_namespace : List ℕ
-pred_namespace = codes "http://www.w3.org/2007/rif-builtin-predicate#"
-
-abbrev pub func_namespace : List ℕ
-func_namespace = codes "http://www.w3.org/2007/rif-builtin-function#"
 
 -- the prefixes that are declared beforehand
 abbrev pub meaning_beforehand : List ℕ → Option (List ℕ)

@@ -4,8 +4,8 @@
 -- Source: the project's own (docs/FORMATS.md, "Refusals").
 use Rattle.std.specs.Prelude.{ℕ, ◌==◌, ◌&&◌, ◌||◌, not, Bool, true, false, if◌then◌else◌, List, [], ◌∷◌, ◌++◌, length}
 use Rattle.std.specs.Prelude.{Option, Some, None, suc}
-use Rattle.prd_grammar.specs.declared.leaf.Keyword.TheVariants.{Group, Forall, If, Do, Assert, Retract, Modify}
-use Rattle.prd_grammar.specs.declared.leaf.Keyword.TheVariants.{External, True, False}
+use Rattle.rif_tree.specs.declared.keyword.Keyword.TheVariants.{Group, Forall, If, Do, Assert, Retract, Modify}
+use Rattle.rif_tree.specs.declared.keyword.Keyword.TheVariants.{External, True, False}
 use Rattle.prd_grammar.specs.declared.leaf.BuiltinName.TheVariants.{Known}
 use Rattle.prd_grammar.specs.declared.leaf.Literal.TheVariants.{Iri as IriLiteral, Local as LocalLiteral}
 use Rattle.prd_grammar.specs.declared.leaf.Leaf.{Leaf}

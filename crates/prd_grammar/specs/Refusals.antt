@@ -32,7 +32,7 @@ use Rattle.prd_grammar.specs.declared.leaf.Leaf.TheVariants.{LeftOut as LeftOutL
 use Rattle.prd_grammar.specs.declared.leaf.Leaf.TheVariants.{Iri, Curie, Builtin, Var, Open, Close, OpenSquare}
 use Rattle.prd_grammar.specs.declared.bracket.Bracket.{Bracket}
 use Rattle.prd_grammar.specs.declared.bracket.Bracket.TheVariants.{Arguments}
-use Rattle.prd_grammar.specs.Builtins.{takes}
+use Rattle.rif_tree.specs.BuiltinNames.{takes}
 use Rattle.prd_grammar.specs.Prefixes.{rif_namespace}
 use Rattle.prd_grammar.specs.Progress.{Progress, Counts, progress_of, is_action, is_new_rule, is_pattern, rule_at}
 use Rattle.prd_grammar.specs.Trees.{DocumentTree, spell_document}

@@ -4,10 +4,10 @@
 use Rattle.std.specs.Prelude.{ℤ, ℕ, Bool, List, [], ◌∷◌, ◌++◌, Option}
 use Rattle.rif_tree.specs.declared.builtin.Func.{Func}
 use Rattle.rif_tree.specs.declared.builtin.Pred.{Pred}
-use Rattle.prd_grammar.specs.declared.leaf.Keyword.TheVariants.{Document, Prefix, Group, Forall, Such, That, If, Then}
-use Rattle.prd_grammar.specs.declared.leaf.Keyword.TheVariants.{Do, New, Assert, Retract, Modify, And, Or, Not, INeg}
-use Rattle.prd_grammar.specs.declared.leaf.Keyword.TheVariants.{Exists, External, True, False}
-use Rattle.prd_grammar.specs.declared.leaf.Builtin.TheVariants.{Func as FuncBuiltin, Pred as PredBuiltin}
+use Rattle.rif_tree.specs.declared.keyword.Keyword.TheVariants.{Document, Prefix, Group, Forall, Such, That, If, Then}
+use Rattle.rif_tree.specs.declared.keyword.Keyword.TheVariants.{Do, New, Assert, Retract, Modify, And, Or, Not, INeg}
+use Rattle.rif_tree.specs.declared.keyword.Keyword.TheVariants.{Exists, External, True, False}
+use Rattle.rif_tree.specs.declared.builtin.Builtin.TheVariants.{Func as FuncBuiltin, Pred as PredBuiltin}
 use Rattle.prd_grammar.specs.declared.leaf.BuiltinName.TheVariants.{Known, Unknown, Undeclared}
 use Rattle.prd_grammar.specs.declared.leaf.Literal.{Literal}
 use Rattle.prd_grammar.specs.declared.leaf.Literal.TheVariants.{Iri as IriLiteral, Local as LocalLiteral}

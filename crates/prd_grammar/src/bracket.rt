@@ -1,4 +1,4 @@
-use crate::leaf::Builtin;
+use rif_tree::Builtin;
 
 /// An open bracket.
 #[derive(Clone, Copy)]

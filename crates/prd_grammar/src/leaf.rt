@@ -1,40 +1,5 @@
-use rif_tree::{Func, Pred};
+use rif_tree::{Builtin, Keyword};
 use rif_values::{Integer, Text};
-
-/// A word that the grammar spells.
-///
-/// Source: our own (docs/FORMATS.md, "Grammar").
-#[derive(Clone, Copy)]
-pub enum Keyword {
-    Document,
-    Prefix,
-    Group,
-    Forall,
-    Such,
-    That,
-    If,
-    Then,
-    Do,
-    New,
-    Assert,
-    Retract,
-    Modify,
-    And,
-    Or,
-    Not,
-    INeg,
-    Exists,
-    External,
-    True,
-    False,
-}
-
-/// A built-in.
-#[derive(Clone, Copy)]
-pub enum Builtin {
-    Func(Func),
-    Pred(Pred),
-}
 
 /// What stands behind `External` `(`.
 #[derive(Clone, Copy)]

@@ -4,7 +4,6 @@
 //! | File | Has | Its words |
 //! |---|---|---|
 //! | `leaf.rt` | a token as the grammar sees it | `specs/Trees.antt`, `specs/Values.antt` |
-//! | `builtin_name.rt` | built-ins by their names, and how many arguments they take | `specs/Builtins.antt` |
 //! | `bracket.rt` | an open bracket | `specs/Progress.antt` |
 //! | `cause.rt` | why a document is refused at a place | `specs/Refusals.antt` |
 //!
@@ -13,11 +12,9 @@
 #![tactic(auto)]
 
 mod bracket;
-mod builtin_name;
 mod cause;
 mod leaf;
 
 pub use bracket::Bracket;
-pub use builtin_name::{builtin_named, func_named, pred_named};
 pub use cause::Cause;
-pub use leaf::{Builtin, BuiltinName, Keyword, Leaf, Literal};
+pub use leaf::{BuiltinName, Leaf, Literal};

@@ -13,7 +13,7 @@ use Rattle.prd_grammar.specs.declared.leaf.Leaf.{Leaf}
 use Rattle.prd_grammar.specs.declared.leaf.Leaf.TheVariants.{Key, Builtin as BuiltinLeaf, Carets as CaretsLeaf}
 use Rattle.prd_grammar.specs.declared.leaf.Leaf.TheVariants.{Curie as CurieLeaf, Iri as IriLeaf, Open as OpenLeaf}
 use Rattle.prd_grammar.specs.declared.leaf.Leaf.TheVariants.{TypeName as TypeLeaf, Word as WordLeaf}
-use Rattle.prd_grammar.specs.declared.leaf.Keyword.TheVariants.{External as ExternalKey, Prefix as PrefixKey}
+use Rattle.rif_tree.specs.declared.keyword.Keyword.TheVariants.{External as ExternalKey, Prefix as PrefixKey}
 use Rattle.prd_leaves.specs.declared.behind.Behind.{Behind}
 use Rattle.prd_grammar.specs.Prefixes.{Prefixes}
 use Rattle.prd_leaves.specs.Leaves.{builtin_of, curie_iri, inner, is_behind_prefix, is_behind_external}

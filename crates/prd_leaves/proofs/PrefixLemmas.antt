@@ -5,7 +5,7 @@ use Rattle.prd_grammar.specs.declared.leaf.Leaf.{Leaf}
 use Rattle.prd_grammar.specs.declared.leaf.Leaf.TheVariants.{Key, Word, Iri, Var, Open, Close, OpenSquare}
 use Rattle.prd_grammar.specs.declared.leaf.Leaf.TheVariants.{CloseSquare}
 use Rattle.prd_grammar.specs.declared.leaf.Leaf.TheVariants.{Hash, Arrow}
-use Rattle.prd_grammar.specs.declared.leaf.Keyword.TheVariants.{Document, Prefix, Such, That, Then, Do}
+use Rattle.rif_tree.specs.declared.keyword.Keyword.TheVariants.{Document, Prefix, Such, That, Then, Do}
 use Rattle.prd_grammar.specs.Prefixes.{Prefixes, with_prefix}
 use Rattle.prd_leaves.specs.Leaves.{prefixes_from, prefixes_with}
 use Rattle.prd_grammar.specs.Trees.{ConstTree, const_int, const_string, const_typed, const_iri, const_curie}

@@ -4,7 +4,7 @@
 use Rattle.std.specs.Prelude.{ℕ, List, [], ◌∷◌, IsUtf8}
 use Rattle.rif_lex.specs.declared.token.Token.{Token}
 use Rattle.rif_lex.specs.Spelling.{Written, written, IsToken}
-use Rattle.prd_grammar.specs.declared.leaf.Keyword.TheVariants.{Prefix as PrefixKey, External as ExternalKey}
+use Rattle.rif_tree.specs.declared.keyword.Keyword.TheVariants.{Prefix as PrefixKey, External as ExternalKey}
 use Rattle.prd_grammar.specs.declared.leaf.Literal.TheVariants.{OfNoType}
 use Rattle.prd_grammar.specs.declared.leaf.Leaf.{Leaf}
 use Rattle.prd_grammar.specs.declared.leaf.Leaf.TheVariants.{Key, Typed, Open, Carets as CaretsLeaf}

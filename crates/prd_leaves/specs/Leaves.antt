@@ -11,11 +11,10 @@ use Rattle.rif_lex.specs.declared.token.Kind.TheVariants.{OpenSquare, CloseSquar
 use Rattle.rif_lex.specs.declared.token.Kind.TheVariants.{Carets}
 use Rattle.rif_lex.specs.declared.token.Token.{Token}
 use Rattle.rif_lex.specs.Spelling.{Written, written}
-use Rattle.prd_grammar.specs.declared.leaf.Keyword.TheVariants.{Document, Prefix, Group, Forall, Such, That, If, Then}
-use Rattle.prd_grammar.specs.declared.leaf.Keyword.TheVariants.{Do, New, Assert, Retract, Modify, And, Or, Not, INeg}
-use Rattle.prd_grammar.specs.declared.leaf.Keyword.TheVariants.{Exists, External, True, False}
+use Rattle.rif_tree.specs.declared.keyword.Keyword.{Keyword}
+use Rattle.rif_tree.specs.declared.keyword.Keyword.TheVariants.{Prefix, External}
 use Rattle.prd_grammar.specs.declared.leaf.BuiltinName.{BuiltinName}
-use Rattle.prd_grammar.specs.declared.leaf.BuiltinName.TheVariants.{Undeclared}
+use Rattle.prd_grammar.specs.declared.leaf.BuiltinName.TheVariants.{Known, Unknown, Undeclared}
 use Rattle.prd_grammar.specs.declared.leaf.Literal.{Literal}
 use Rattle.prd_grammar.specs.declared.leaf.Literal.TheVariants.{OfNoType}
 use Rattle.prd_grammar.specs.declared.leaf.Leaf.{Leaf}
@@ -28,37 +27,25 @@ use Rattle.prd_grammar.specs.declared.leaf.Leaf.TheVariants.{OpenSquare as OpenS
 use Rattle.prd_grammar.specs.declared.leaf.Leaf.TheVariants.{CloseSquare as CloseSquareLeaf, Equal as EqualLeaf}
 use Rattle.prd_grammar.specs.declared.leaf.Leaf.TheVariants.{Hash as HashLeaf, Arrow as ArrowLeaf}
 use Rattle.prd_grammar.specs.declared.leaf.Leaf.TheVariants.{Carets as CaretsLeaf}
-use Rattle.prd_grammar.specs.Builtins.{builtin_named}
+use Rattle.rif_tree.specs.declared.builtin.Builtin.{Builtin}
+use Rattle.rif_tree.specs.BuiltinNames.{builtin_named}
+use Rattle.rif_tree.specs.Keywords.{keyword_named}
 use Rattle.prd_leaves.specs.Literals.{integer_of, unescaped, is_type, literal_of}
 use Rattle.prd_grammar.specs.Prefixes.{Prefixes, meaning_in, with_prefix}
 
+-- a word of what the profile leaves out
+abbrev pub is_left_out : List ℕ → Bool
+is_left_out t =
+    bytes_eq t (codes "Base") || (bytes_eq t (codes "Import") || (bytes_eq t (codes "Execute") || bytes_eq t
+    (codes "List")))
+
+abbrev pub key_leaf : Option Keyword → List ℕ → Leaf
+key_leaf (Some keyword) t = Key keyword
+key_leaf None t = if is_left_out t then LeftOut else WordLeaf t
+
 -- a word that the grammar spells or leaves out, and any other
 abbrev pub word_leaf : List ℕ → Leaf
-word_leaf t =
-    if bytes_eq t (codes "Document") then Key Document
-    else (if bytes_eq t (codes "Prefix") then Key Prefix
-    else (if bytes_eq t (codes "Group") then Key Group
-    else (if bytes_eq t (codes "Forall") then Key Forall
-    else (if bytes_eq t (codes "such") then Key Such
-    else (if bytes_eq t (codes "that") then Key That
-    else (if bytes_eq t (codes "If") then Key If
-    else (if bytes_eq t (codes "Then") then Key Then
-    else (if bytes_eq t (codes "Do") then Key Do
-    else (if bytes_eq t (codes "New") then Key New
-    else (if bytes_eq t (codes "Assert") then Key Assert
-    else (if bytes_eq t (codes "Retract") then Key Retract
-    else (if bytes_eq t (codes "Modify") then Key Modify
-    else (if bytes_eq t (codes "And") then Key And
-    else (if bytes_eq t (codes "Or") then Key Or
-    else (if bytes_eq t (codes "Not") then Key Not
-    else (if bytes_eq t (codes "INeg") then Key INeg
-    else (if bytes_eq t (codes "Exists") then Key Exists
-    else (if bytes_eq t (codes "External") then Key External
-    else (if bytes_eq t (codes "true") then Key True
-    else (if bytes_eq t (codes "false") then Key False
-    else (if bytes_eq t (codes "Base") ||
-    (bytes_eq t (codes "Import") || (bytes_eq t (codes "Execute") || bytes_eq t (codes "List"))) then LeftOut
-    else WordLeaf t)))))))))))))))))))))
+word_leaf t = key_leaf (keyword_named t) t
 
 -- straight behind these leaves, of which the newest stands first
 abbrev pub is_behind_prefix : List Leaf → Bool
@@ -90,9 +77,13 @@ curie_iri prefixes t = followed_by (meaning_in prefixes (before_colon t)) (drop 
 abbrev pub inner : List ℕ → List ℕ
 inner t = take (length t - 2) (drop 1 t)
 
+abbrev pub known_name : Option Builtin → BuiltinName
+known_name None = Unknown
+known_name (Some builtin) = Known builtin
+
 abbrev pub builtin_of : Option (List ℕ) → BuiltinName
 builtin_of None = Undeclared
-builtin_of (Some iri) = builtin_named iri
+builtin_of (Some iri) = known_name (builtin_named iri)
 
 abbrev pub is_type_name : Option (List ℕ) → Bool
 is_type_name None = false

@@ -10,8 +10,9 @@ use crate::behind::Behind;
 use crate::prefixes::Prefixes;
 use crate::text_pool::TextPool;
 use crate::token_leaf::leaf_at;
-use prd_grammar::{Keyword, Leaf};
+use prd_grammar::Leaf;
 use rif_lex::Token;
+use rif_tree::Keyword;
 use rif_values::{OutOfMemory, Text};
 use std::alloc::Global;
 

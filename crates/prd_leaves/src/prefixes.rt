@@ -8,6 +8,7 @@ ghost use Rattle.prd_grammar.specs.Prefixes.{meaning_beforehand};
 
 use indexmap::map::Iter;
 use indexmap::{Equivalent, IndexMap};
+use rif_tree::{func_namespace, pred_namespace};
 use rif_values::{OutOfMemory, Text};
 use std::alloc::Global;
 use std::marker::Model;
@@ -107,9 +108,9 @@ fn meaning_beforehand(name: &[u8]) -> Option<&'static [u8]>
     } else if name == b"rif".as_slice() {
         Some("http://www.w3.org/2007/rif#".as_bytes())
     } else if name == b"pred".as_slice() {
-        Some("http://www.w3.org/2007/rif-builtin-predicate#".as_bytes())
+        Some(pred_namespace().as_bytes())
     } else if name == b"func".as_slice() {
-        Some("http://www.w3.org/2007/rif-builtin-function#".as_bytes())
+        Some(func_namespace().as_bytes())
     } else {
         None
     }

@@ -3,7 +3,7 @@ ghost use Rattle.std.specs.Prelude.{◌≡◌, ◌++◌, if◌then◌else◌, ma
 ghost use Rattle.rif_lex.specs.Spelling.{written};
 ghost use Rattle.prd_grammar.specs.declared.leaf.Leaf.TheVariants.{Curie as CurieLeaf, Iri as IriLeaf};
 ghost use Rattle.prd_grammar.specs.declared.leaf.Leaf.TheVariants.{Word as WordLeaf};
-ghost use Rattle.prd_leaves.specs.Leaves.{curie_iri, is_behind_prefix, leaf_of, literal_leaf, named_leaf};
+ghost use Rattle.prd_leaves.specs.Leaves.{builtin_of, curie_iri, is_behind_prefix, leaf_of, literal_leaf, named_leaf};
 ghost use Rattle.prd_leaves.specs.Leaves.{string_leaf, typed_leaf, word_leaf};
 ghost use Rattle.prd_leaves.specs.LeafSteps.{front_of, literal_by, IsTokenOf};
 
@@ -13,8 +13,9 @@ use crate::literal::{integer_of, is_type, literal_of};
 use crate::prefixes::Prefixes;
 use crate::text_pool::TextPool;
 use crate::token_text::{before_colon, behind_colon, behind_sign, inner, text_of};
-use prd_grammar::{BuiltinName, Leaf, Literal, builtin_named};
+use prd_grammar::{BuiltinName, Leaf, Literal};
 use rif_lex::{Kind, Token};
+use rif_tree::Builtin;
 use rif_values::{OutOfMemory, Text};
 
 /// The leaf of a token of the bytes, where these prefixes are declared, this stands straight before it, and these
@@ -74,6 +75,16 @@ fn word_or_name(pool: &mut TextPool, behind: Behind, text: &[u8]) -> Result<Leaf
     }
 }
 
+// What an IRI names as a built-in.
+fn builtin_of(iri: &[u8]) -> BuiltinName
+    ensures { result ≡ builtin_of (Some iri.now) }
+{
+    match Builtin::named(iri) {
+        Some(builtin) => BuiltinName::Known(builtin),
+        None => BuiltinName::Unknown,
+    }
+}
+
 // An IRI by its text: a type, a built-in's name, or itself.
 fn iri_leaf(pool: &mut TextPool, behind: Behind, text: &[u8]) -> Result<Leaf, OutOfMemory>
     requires { IsUtf8 text.now }
@@ -81,7 +92,7 @@ fn iri_leaf(pool: &mut TextPool, behind: Behind, text: &[u8]) -> Result<Leaf, Ou
 {
     match behind {
         Behind::Carets => Ok(Leaf::TypeName(is_type(text))),
-        Behind::External => Ok(Leaf::Builtin(builtin_named(text))),
+        Behind::External => Ok(Leaf::Builtin(builtin_of(text))),
         _ => Ok(Leaf::Iri(pool.text(text)?)),
     }
 }
@@ -116,7 +127,7 @@ fn known_curie(
 {
     match behind {
         Behind::Carets => Ok(Leaf::TypeName(is_type(pool.joined_bytes(meaning, name)?))),
-        Behind::External => Ok(Leaf::Builtin(builtin_named(pool.joined_bytes(meaning, name)?))),
+        Behind::External => Ok(Leaf::Builtin(builtin_of(pool.joined_bytes(meaning, name)?))),
         _ => Ok(Leaf::Curie(Some(pool.joined(meaning, name)?))),
     }
 }

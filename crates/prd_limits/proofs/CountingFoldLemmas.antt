@@ -2,7 +2,7 @@
 use Rattle.std.proofs.Common.{◌≡◌, ◌+◌, ℕ, suc, zero, Bool, true, false, List, [], ◌∷◌, ◌++◌, refl, ap, ◌∙◌, sym}
 use Rattle.std.proofs.Common.{subst, arith, length, Some, None, if◌then◌else◌, eq-eqb, ne_eqb}
 use Rattle.std.specs.declared.option.Option.{Option}
-use Rattle.prd_grammar.specs.declared.leaf.Keyword.TheVariants.{Do, Assert, Retract, Modify}
+use Rattle.rif_tree.specs.declared.keyword.Keyword.TheVariants.{Do, Assert, Retract, Modify}
 use Rattle.prd_grammar.specs.declared.leaf.Leaf.{Leaf}
 use Rattle.prd_grammar.specs.declared.leaf.Leaf.TheVariants.{Key, Var, Open, Close, OpenSquare, CloseSquare}
 use Rattle.prd_grammar.specs.declared.bracket.Bracket.{Bracket}

@@ -3,7 +3,7 @@
 --     signs s m n ls     the patterns among leaves up to a `Do`, and those before
 use Rattle.std.proofs.Common.{ℕ, suc, zero, Bool, false, not, List, [], ◌∷◌}
 use Rattle.std.specs.Prelude.{if◌then◌else◌}
-use Rattle.prd_grammar.specs.declared.leaf.Keyword.TheVariants.{Do, Assert, Retract, Modify}
+use Rattle.rif_tree.specs.declared.keyword.Keyword.TheVariants.{Do, Assert, Retract, Modify}
 use Rattle.prd_grammar.specs.declared.leaf.Literal.TheVariants.{Iri as IriLiteral, Local as LocalLiteral}
 use Rattle.prd_grammar.specs.declared.leaf.Leaf.{Leaf}
 use Rattle.prd_grammar.specs.declared.leaf.Leaf.TheVariants.{Key, Typed, TypeName as TypeLeaf, Iri, Curie, Local}

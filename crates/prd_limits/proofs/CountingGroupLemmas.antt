@@ -4,7 +4,7 @@ use Rattle.std.proofs.Common.{arith, length, map, Some, None, if◌then◌else�
 use Rattle.std.proofs.lemmas.List.{map-append}
 use Rattle.std.specs.declared.option.Option.{Option}
 use Rattle.rif_tree.specs.declared.rule.Rule.{Rule}
-use Rattle.prd_grammar.specs.declared.leaf.Keyword.TheVariants.{Document, Prefix, Group}
+use Rattle.rif_tree.specs.declared.keyword.Keyword.TheVariants.{Document, Prefix, Group}
 use Rattle.prd_grammar.specs.declared.leaf.Leaf.{Leaf}
 use Rattle.prd_grammar.specs.declared.leaf.Leaf.TheVariants.{Key, Word, Int, Iri, Curie, Open, Close}
 use Rattle.prd_grammar.specs.declared.bracket.Bracket.{Bracket}

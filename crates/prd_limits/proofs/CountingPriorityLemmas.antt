@@ -5,7 +5,7 @@ use Rattle.std.proofs.lemmas.Bool.{not-false}
 use Rattle.std.proofs.lemmas.Int.{ints}
 use Rattle.rif_refusals.specs.Limits.{most_priority}
 use Rattle.rif_tree.specs.declared.rule.Rule.{Rule}
-use Rattle.prd_grammar.specs.declared.leaf.Keyword.TheVariants.{Group}
+use Rattle.rif_tree.specs.declared.keyword.Keyword.TheVariants.{Group}
 use Rattle.prd_grammar.specs.declared.leaf.Leaf.{Leaf}
 use Rattle.prd_grammar.specs.declared.leaf.Leaf.TheVariants.{Key, Int, Iri, Curie, Open, Close}
 use Rattle.prd_grammar.specs.Progress.{Progress, at_start, progress_with, progress_from}

@@ -1,6 +1,6 @@
 -- Along a rule: its conditions lead to its `Do`, and its block to the bracket that closes it.
 use Rattle.std.proofs.Common.{◌≡◌, ℕ, suc, false, List, [], ◌∷◌, ◌++◌, refl, ◌∙◌}
-use Rattle.prd_grammar.specs.declared.leaf.Keyword.TheVariants.{Such, That, Then, Do}
+use Rattle.rif_tree.specs.declared.keyword.Keyword.TheVariants.{Such, That, Then, Do}
 use Rattle.prd_grammar.specs.declared.leaf.Leaf.{Leaf}
 use Rattle.prd_grammar.specs.declared.leaf.Leaf.TheVariants.{Key, Open, Close}
 use Rattle.prd_grammar.specs.Trees.{spell_vars, spell_formula, spell_such, spell_block, RuleTree, for_all}

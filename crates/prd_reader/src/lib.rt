@@ -21,6 +21,7 @@ mod tests;
 pub use document::{read_doc, read_parts};
 pub use laws::one_outcome;
 pub use prd_canonical::{canonical_is_read_back, canonical_is_separate};
-pub use prd_grammar::{Builtin, BuiltinName, Keyword, Leaf, Literal};
+pub use prd_grammar::{BuiltinName, Leaf, Literal};
 pub use prd_leaves::{Behind, Prefixes, TextPool, leaf_at, text_of};
 pub use prd_writing::write_doc;
+pub use rif_tree::{Builtin, Keyword};

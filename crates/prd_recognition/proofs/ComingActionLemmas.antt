@@ -1,7 +1,7 @@
 -- What each leaf begins where a target, an action, a declaration or a block has to come.
 use Rattle.std.proofs.Common.{◌≡◌, ℕ, List, [], ◌∷◌, ◌++◌, Some, None, refl, ap, ◌∙◌}
 use Rattle.std.specs.declared.option.Option.{Option}
-use Rattle.prd_grammar.specs.declared.leaf.Keyword.TheVariants.{New, Assert, Retract, Modify}
+use Rattle.rif_tree.specs.declared.keyword.Keyword.TheVariants.{New, Assert, Retract, Modify}
 use Rattle.prd_grammar.specs.declared.leaf.Leaf.{Leaf}
 use Rattle.prd_grammar.specs.declared.leaf.Leaf.TheVariants.{Key, Var, Open as OpenLeaf, Close as CloseLeaf}
 use Rattle.prd_grammar.specs.declared.leaf.Leaf.TheVariants.{OpenSquare as OpenSquareLeaf, Hash}

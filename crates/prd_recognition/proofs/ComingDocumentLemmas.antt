@@ -1,7 +1,7 @@
 -- What came whole is spelled by a document.
 use Rattle.std.proofs.Common.{◌≡◌, List, [], ◌∷◌, Some, None, refl, ap, ◌∙◌, sym}
 use Rattle.std.specs.declared.option.Option.{Option}
-use Rattle.prd_grammar.specs.declared.leaf.Keyword.TheVariants.{Document as DocumentKey, Prefix, Group}
+use Rattle.rif_tree.specs.declared.keyword.Keyword.TheVariants.{Document as DocumentKey, Prefix, Group}
 use Rattle.prd_grammar.specs.declared.leaf.Leaf.{Leaf}
 use Rattle.prd_grammar.specs.declared.leaf.Leaf.TheVariants.{Key, Int, Iri, Curie, Open as OpenLeaf}
 use Rattle.prd_grammar.specs.declared.leaf.Leaf.TheVariants.{Close as CloseLeaf}

@@ -1,7 +1,7 @@
 -- What each leaf begins where a formula, formulas or the rest of one has to come.
 use Rattle.std.proofs.Common.{◌≡◌, ℕ, List, [], ◌∷◌, refl, ap}
-use Rattle.prd_grammar.specs.declared.leaf.Keyword.TheVariants.{And, Or, Not, INeg, Exists, External, True, False}
-use Rattle.prd_grammar.specs.declared.leaf.Builtin.TheVariants.{Func as FuncBuiltin, Pred as PredBuiltin}
+use Rattle.rif_tree.specs.declared.keyword.Keyword.TheVariants.{And, Or, Not, INeg, Exists, External, True, False}
+use Rattle.rif_tree.specs.declared.builtin.Builtin.TheVariants.{Func as FuncBuiltin, Pred as PredBuiltin}
 use Rattle.prd_grammar.specs.declared.leaf.BuiltinName.TheVariants.{Known, Unknown, Undeclared}
 use Rattle.prd_grammar.specs.declared.leaf.Literal.TheVariants.{Iri as IriLiteral, Local as LocalLiteral}
 use Rattle.prd_grammar.specs.declared.leaf.Leaf.{Leaf}

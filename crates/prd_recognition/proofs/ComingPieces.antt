@@ -5,9 +5,9 @@
 --     Builds more w l    what a leaf leads to, behind this leaf, is a want's piece
 use Rattle.std.proofs.Common.{◌≡◌, ℕ, Bool, List, [], ◌∷◌, ◌++◌, Some, None, refl, ap, ◌∙◌}
 use Rattle.std.specs.declared.option.Option.{Option}
-use Rattle.prd_grammar.specs.declared.leaf.Keyword.TheVariants.{Such, That as ThatKey, Then as ThenKey, Do as DoKey}
-use Rattle.prd_grammar.specs.declared.leaf.Keyword.TheVariants.{New}
-use Rattle.prd_grammar.specs.declared.leaf.Builtin.TheVariants.{Func as FuncBuiltin}
+use Rattle.rif_tree.specs.declared.keyword.Keyword.TheVariants.{Such, That as ThatKey, Then as ThenKey, Do as DoKey}
+use Rattle.rif_tree.specs.declared.keyword.Keyword.TheVariants.{New}
+use Rattle.rif_tree.specs.declared.builtin.Builtin.TheVariants.{Func as FuncBuiltin}
 use Rattle.prd_grammar.specs.declared.leaf.BuiltinName.TheVariants.{Known}
 use Rattle.prd_grammar.specs.declared.leaf.Leaf.{Leaf}
 use Rattle.prd_grammar.specs.declared.leaf.Leaf.TheVariants.{Key, Word, TypeName as TypeLeaf, Iri, Builtin, Var}

@@ -1,6 +1,6 @@
 -- What each leaf begins where a rule or the rest of one has to come.
 use Rattle.std.proofs.Common.{◌≡◌, ℕ, List, [], ◌∷◌, refl, ap}
-use Rattle.prd_grammar.specs.declared.leaf.Keyword.TheVariants.{Forall, Such, That as ThatKey, If, Do as DoKey}
+use Rattle.rif_tree.specs.declared.keyword.Keyword.TheVariants.{Forall, Such, That as ThatKey, If, Do as DoKey}
 use Rattle.prd_grammar.specs.declared.leaf.Leaf.{Leaf}
 use Rattle.prd_grammar.specs.declared.leaf.Leaf.TheVariants.{Key, Var, Open as OpenLeaf}
 use Rattle.prd_recognition.specs.declared.want.Want.TheVariants.{Rule, ForallRest, SuchRest, SuchBracket, Formula}

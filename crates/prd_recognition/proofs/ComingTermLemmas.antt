@@ -1,9 +1,9 @@
 -- What each leaf begins where one leaf, a term or a list of terms has to come.
 use Rattle.std.proofs.Common.{◌≡◌, ℕ, Bool, true, false, cond, List, [], ◌∷◌, Some, None, refl, ap, sym, bytes_eq}
 use Rattle.std.proofs.lemmas.Slice.Eq.{bytes_eq-Decides}
-use Rattle.prd_grammar.specs.declared.leaf.Keyword.TheVariants.{External, True, False, That as ThatKey}
-use Rattle.prd_grammar.specs.declared.leaf.Keyword.TheVariants.{Then as ThenKey, Do as DoKey}
-use Rattle.prd_grammar.specs.declared.leaf.Builtin.TheVariants.{Func as FuncBuiltin}
+use Rattle.rif_tree.specs.declared.keyword.Keyword.TheVariants.{External, True, False, That as ThatKey}
+use Rattle.rif_tree.specs.declared.keyword.Keyword.TheVariants.{Then as ThenKey, Do as DoKey}
+use Rattle.rif_tree.specs.declared.builtin.Builtin.TheVariants.{Func as FuncBuiltin}
 use Rattle.prd_grammar.specs.declared.leaf.BuiltinName.TheVariants.{Known, Unknown, Undeclared}
 use Rattle.prd_grammar.specs.declared.leaf.Literal.TheVariants.{Iri as IriLiteral, Local as LocalLiteral}
 use Rattle.prd_grammar.specs.declared.leaf.Leaf.{Leaf}

@@ -1,8 +1,8 @@
 -- Each stack of wants has an ending.
 use Rattle.std.proofs.Common.{◌≡◌, ℕ, Bool, true, cond, List, [], ◌∷◌, Some, None, refl, ap, ◌∙◌}
 use Rattle.std.proofs.lemmas.Slice.Eq.{bytes_eq-Decides}
-use Rattle.prd_grammar.specs.declared.leaf.Keyword.TheVariants.{Document as DocumentKey, That as ThatKey}
-use Rattle.prd_grammar.specs.declared.leaf.Keyword.TheVariants.{Then as ThenKey, Do as DoKey, New, Retract, True}
+use Rattle.rif_tree.specs.declared.keyword.Keyword.TheVariants.{Document as DocumentKey, That as ThatKey}
+use Rattle.rif_tree.specs.declared.keyword.Keyword.TheVariants.{Then as ThenKey, Do as DoKey, New, Retract, True}
 use Rattle.prd_grammar.specs.declared.leaf.BuiltinName.TheVariants.{Unknown}
 use Rattle.prd_grammar.specs.declared.leaf.Leaf.{Leaf}
 use Rattle.prd_grammar.specs.declared.leaf.Leaf.TheVariants.{Key, Word, TypeName as TypeLeaf, Iri, Builtin, Local}

@@ -1,6 +1,6 @@
 -- What is spelled may come: the formulas of `such that`, and rules.
 use Rattle.std.proofs.Common.{◌≡◌, refl, sym, ap, ◌∙◌, List, [], ◌∷◌, ◌++◌, Some}
-use Rattle.prd_grammar.specs.declared.leaf.Keyword.TheVariants.{Such, That as ThatKey, Then as ThenKey, Do as DoKey}
+use Rattle.rif_tree.specs.declared.keyword.Keyword.TheVariants.{Such, That as ThatKey, Then as ThenKey, Do as DoKey}
 use Rattle.prd_grammar.specs.declared.leaf.Leaf.{Leaf}
 use Rattle.prd_grammar.specs.declared.leaf.Leaf.TheVariants.{Key, Typed, TypeName, Carets, Open as OpenLeaf}
 use Rattle.prd_grammar.specs.declared.leaf.Leaf.TheVariants.{Close as CloseLeaf}

@@ -2,12 +2,12 @@
 --     next w l      what comes in place of a want, behind a leaf; nothing where the leaf can't come
 --     after ws ls   what has still to come behind some leaves
 use Rattle.std.specs.Prelude.{◌≡◌, ℕ, if◌then◌else◌, List, [], ◌∷◌, ◌++◌, Option, Some, None, bytes_eq}
-use Rattle.prd_grammar.specs.declared.leaf.Keyword.TheVariants.{Document as DocumentKey, Prefix, Group, Forall, Such}
-use Rattle.prd_grammar.specs.declared.leaf.Keyword.TheVariants.{That as ThatKey, If, Then as ThenKey, Do as DoKey}
-use Rattle.prd_grammar.specs.declared.leaf.Keyword.TheVariants.{New}
-use Rattle.prd_grammar.specs.declared.leaf.Keyword.TheVariants.{Assert, Retract, Modify, And, Or, Not, INeg, Exists}
-use Rattle.prd_grammar.specs.declared.leaf.Keyword.TheVariants.{External, True, False}
-use Rattle.prd_grammar.specs.declared.leaf.Builtin.TheVariants.{Func as FuncBuiltin, Pred as PredBuiltin}
+use Rattle.rif_tree.specs.declared.keyword.Keyword.TheVariants.{Document as DocumentKey, Prefix, Group, Forall, Such}
+use Rattle.rif_tree.specs.declared.keyword.Keyword.TheVariants.{That as ThatKey, If, Then as ThenKey, Do as DoKey}
+use Rattle.rif_tree.specs.declared.keyword.Keyword.TheVariants.{New}
+use Rattle.rif_tree.specs.declared.keyword.Keyword.TheVariants.{Assert, Retract, Modify, And, Or, Not, INeg, Exists}
+use Rattle.rif_tree.specs.declared.keyword.Keyword.TheVariants.{External, True, False}
+use Rattle.rif_tree.specs.declared.builtin.Builtin.TheVariants.{Func as FuncBuiltin, Pred as PredBuiltin}
 use Rattle.prd_grammar.specs.declared.leaf.BuiltinName.TheVariants.{Known, Unknown, Undeclared}
 use Rattle.prd_grammar.specs.declared.leaf.Literal.TheVariants.{Iri as IriLiteral, Local as LocalLiteral}
 use Rattle.prd_grammar.specs.declared.leaf.Leaf.{Leaf}

@@ -25,7 +25,8 @@ use crate::following::groups::{
 use crate::following::rules::{advance_forall, advance_rule, advance_such, advance_such_bracket};
 use crate::following::terms::{advance_pairs, advance_term, advance_terms, is_func_name};
 use crate::want::Want;
-use prd_grammar::{Keyword, Leaf};
+use prd_grammar::Leaf;
+use rif_tree::Keyword;
 use rif_values::OutOfMemory;
 use std::collections::VecDeque;
 

@@ -5,7 +5,8 @@ ghost use Rattle.prd_recognition.specs.Reached.{HasRoom, name_with};
 
 use crate::counting::{RuleReading, go_on_in_rule};
 use crate::signs::{begins_rule, is_term, takes_term};
-use prd_grammar::{Bracket, BuiltinName, Keyword, Leaf, Literal};
+use prd_grammar::{Bracket, BuiltinName, Leaf, Literal};
+use rif_tree::Keyword;
 use rif_values::{OutOfMemory, Text};
 use sqlite_items::Items;
 use std::alloc::Global;

@@ -3,7 +3,8 @@ ghost use Rattle.std.specs.Prelude.{◌≡◌};
 ghost use Rattle.prd_grammar.specs.Progress.{begins_rule, is_action, is_close, is_do, is_sign_of_pattern, is_term};
 ghost use Rattle.prd_grammar.specs.Progress.{takes_term};
 
-use prd_grammar::{Keyword, Leaf};
+use prd_grammar::Leaf;
+use rif_tree::Keyword;
 
 /// Whether a leaf begins a rule.
 pub fn begins_rule(leaf: &Leaf) -> bool

@@ -7,16 +7,8 @@
 use Rattle.std.specs.Prelude.{ℕ, List, [], ◌∷◌, ◌++◌, Option, Some, None, codes, get_or, map}
 use Rattle.std.specs.Fmt.{signed_decimal}
 use Rattle.rif_tree.specs.declared.builtin.Func.{Func}
-use Rattle.rif_tree.specs.declared.builtin.Func.TheVariants.{NumericAdd, NumericSubtract, NumericMultiply}
-use Rattle.rif_tree.specs.declared.builtin.Func.TheVariants.{NumericIntegerDivide, NumericIntegerMod, Not as NotFunc}
-use Rattle.rif_tree.specs.declared.builtin.Func.TheVariants.{Concat, StringLength}
 use Rattle.rif_tree.specs.declared.builtin.Pred.{Pred}
-use Rattle.rif_tree.specs.declared.builtin.Pred.TheVariants.{NumericEqual, NumericNotEqual, NumericLessThan}
-use Rattle.rif_tree.specs.declared.builtin.Pred.TheVariants.{NumericLessThanOrEqual, NumericGreaterThan}
-use Rattle.rif_tree.specs.declared.builtin.Pred.TheVariants.{NumericGreaterThanOrEqual, BooleanEqual}
-use Rattle.rif_tree.specs.declared.builtin.Pred.TheVariants.{BooleanLessThan, BooleanGreaterThan, StartsWith}
-use Rattle.rif_tree.specs.declared.builtin.Pred.TheVariants.{EndsWith, Contains, IsLiteralInteger, IsLiteralString}
-use Rattle.rif_tree.specs.declared.builtin.Pred.TheVariants.{IsLiteralBoolean}
+use Rattle.rif_tree.specs.BuiltinNames.{func_name, pred_name}
 use Rattle.rif_values.specs.declared.constant.Const.{Const}
 use Rattle.rif_values.specs.declared.constant.Const.TheVariants.{Int as IntConst, Bool as BoolConst, Str as StrConst}
 use Rattle.rif_values.specs.declared.constant.Const.TheVariants.{Iri as IriConst, Local as LocalConst, Fresh}
@@ -100,31 +92,10 @@ abbrev pub var_spelling : List (List ℕ) → ℕ → Writing
 var_spelling names v gap rest = spelled Var (codes "?" ++ get_or names v []) gap ∷ rest
 
 abbrev pub func_text : Func → List ℕ
-func_text NumericAdd = codes "func:numeric-add"
-func_text NumericSubtract = codes "func:numeric-subtract"
-func_text NumericMultiply = codes "func:numeric-multiply"
-func_text NumericIntegerDivide = codes "func:numeric-integer-divide"
-func_text NumericIntegerMod = codes "func:numeric-integer-mod"
-func_text NotFunc = codes "func:not"
-func_text Concat = codes "func:concat"
-func_text StringLength = codes "func:string-length"
+func_text f = codes "func:" ++ func_name f
 
 abbrev pub pred_text : Pred → List ℕ
-pred_text NumericEqual = codes "pred:numeric-equal"
-pred_text NumericNotEqual = codes "pred:numeric-not-equal"
-pred_text NumericLessThan = codes "pred:numeric-less-than"
-pred_text NumericLessThanOrEqual = codes "pred:numeric-less-than-or-equal"
-pred_text NumericGreaterThan = codes "pred:numeric-greater-than"
-pred_text NumericGreaterThanOrEqual = codes "pred:numeric-greater-than-or-equal"
-pred_text BooleanEqual = codes "pred:boolean-equal"
-pred_text BooleanLessThan = codes "pred:boolean-less-than"
-pred_text BooleanGreaterThan = codes "pred:boolean-greater-than"
-pred_text StartsWith = codes "pred:starts-with"
-pred_text EndsWith = codes "pred:ends-with"
-pred_text Contains = codes "pred:contains"
-pred_text IsLiteralInteger = codes "pred:is-literal-integer"
-pred_text IsLiteralString = codes "pred:is-literal-string"
-pred_text IsLiteralBoolean = codes "pred:is-literal-boolean"
+pred_text p = codes "pred:" ++ pred_name p
 
 -- a built-in by its name, with its arguments
 abbrev pub external_spelling : List ℕ → List Writing → Writing

@@ -26,26 +26,8 @@ pub fn push_vars(out: &mut Vec<u8>, names: &[Text], vars: &[u32]) -> Result<(), 
 fn push_pred(out: &mut Vec<u8>, pred: Pred) -> Result<(), OutOfMemory>
     ensures { (rest : List ℕ) → OnOk result (out.new.items ++ rest ≡ out.old.items ++ (pred_text pred ++ rest)) }
 {
-    match pred {
-        Pred::NumericEqual => out.extend_from_slice(b"pred:numeric-equal")?,
-        Pred::NumericNotEqual => out.extend_from_slice(b"pred:numeric-not-equal")?,
-        Pred::NumericLessThan => out.extend_from_slice(b"pred:numeric-less-than")?,
-        Pred::NumericLessThanOrEqual => out.extend_from_slice(b"pred:numeric-less-than-or-equal")?,
-        Pred::NumericGreaterThan => out.extend_from_slice(b"pred:numeric-greater-than")?,
-        Pred::NumericGreaterThanOrEqual => {
-            out.extend_from_slice(b"pred:numeric-greater-than-or-equal")?
-        }
-        Pred::BooleanEqual => out.extend_from_slice(b"pred:boolean-equal")?,
-        Pred::BooleanLessThan => out.extend_from_slice(b"pred:boolean-less-than")?,
-        Pred::BooleanGreaterThan => out.extend_from_slice(b"pred:boolean-greater-than")?,
-        Pred::StartsWith => out.extend_from_slice(b"pred:starts-with")?,
-        Pred::EndsWith => out.extend_from_slice(b"pred:ends-with")?,
-        Pred::Contains => out.extend_from_slice(b"pred:contains")?,
-        Pred::IsLiteralInteger => out.extend_from_slice(b"pred:is-literal-integer")?,
-        Pred::IsLiteralString => out.extend_from_slice(b"pred:is-literal-string")?,
-        Pred::IsLiteralBoolean => out.extend_from_slice(b"pred:is-literal-boolean")?,
-    }
-    Ok(())
+    push_bytes(out, b"pred:")?;
+    push_bytes(out, pred.name())
 }
 
 // Appends a built-in predicate with its arguments.

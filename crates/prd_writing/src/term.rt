@@ -50,17 +50,8 @@ pub fn push_var(out: &mut Vec<u8>, names: &[Text], var: u32) -> Result<(), OutOf
 fn push_func(out: &mut Vec<u8>, func: Func) -> Result<(), OutOfMemory>
     ensures { (rest : List ℕ) → OnOk result (out.new.items ++ rest ≡ out.old.items ++ (func_text func ++ rest)) }
 {
-    match func {
-        Func::NumericAdd => out.extend_from_slice(b"func:numeric-add")?,
-        Func::NumericSubtract => out.extend_from_slice(b"func:numeric-subtract")?,
-        Func::NumericMultiply => out.extend_from_slice(b"func:numeric-multiply")?,
-        Func::NumericIntegerDivide => out.extend_from_slice(b"func:numeric-integer-divide")?,
-        Func::NumericIntegerMod => out.extend_from_slice(b"func:numeric-integer-mod")?,
-        Func::Not => out.extend_from_slice(b"func:not")?,
-        Func::Concat => out.extend_from_slice(b"func:concat")?,
-        Func::StringLength => out.extend_from_slice(b"func:string-length")?,
-    }
-    Ok(())
+    push_bytes(out, b"func:")?;
+    push_bytes(out, func.name())
 }
 
 #[cycle(term_writing)]

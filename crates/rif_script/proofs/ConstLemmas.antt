@@ -7,7 +7,7 @@ use Rattle.std.specs.List.{list_any}
 use Rattle.rif_values.specs.declared.constant.Const.{Const}
 use Rattle.rif_values.specs.declared.constant.Const.TheVariants.{Int as IntConst, Bool as BoolConst, Str as StrConst}
 use Rattle.rif_values.specs.declared.constant.Const.TheVariants.{Iri as IriConst, Local as LocalConst}
-use Rattle.prd_grammar.specs.declared.leaf.Keyword.TheVariants.{True, False}
+use Rattle.rif_tree.specs.declared.keyword.Keyword.TheVariants.{True, False}
 use Rattle.prd_grammar.specs.declared.leaf.Literal.{Literal}
 use Rattle.prd_grammar.specs.declared.leaf.Literal.TheVariants.{Integer, Boolean, String, Iri as IriLiteral}
 use Rattle.prd_grammar.specs.declared.leaf.Literal.TheVariants.{Local as LocalLiteral, OfNoType}

@@ -8,7 +8,7 @@ use Rattle.rif_lex.specs.declared.token.Kind.{Kind}
 use Rattle.rif_lex.specs.declared.token.Kind.TheVariants.{Word, Curie, Iri}
 use Rattle.rif_lex.specs.declared.token.Token.{Token}
 use Rattle.rif_lex.specs.Spelling.{Written, written}
-use Rattle.prd_grammar.specs.declared.leaf.Keyword.TheVariants.{Prefix, External, True, False}
+use Rattle.rif_tree.specs.declared.keyword.Keyword.TheVariants.{Prefix, External, True, False}
 use Rattle.prd_grammar.specs.declared.leaf.Leaf.{Leaf}
 use Rattle.prd_grammar.specs.declared.leaf.Leaf.TheVariants.{Key, LeftOut, Word as WordLeaf, TypeName, Iri as IriLeaf}
 use Rattle.prd_grammar.specs.declared.leaf.Leaf.TheVariants.{Open as OpenLeaf, OpenSquare as OpenSquareLeaf}

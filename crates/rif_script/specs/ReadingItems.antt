@@ -15,8 +15,8 @@ use Rattle.rif_values.specs.declared.fact.Fact.TheVariants.{Atom, Frame, Member}
 use Rattle.rif_lex.specs.declared.token.Kind.{Kind}
 use Rattle.rif_lex.specs.declared.token.Kind.TheVariants.{Word}
 use Rattle.rif_lex.specs.Spelling.{Written}
-use Rattle.prd_grammar.specs.declared.leaf.Keyword.{Keyword}
-use Rattle.prd_grammar.specs.declared.leaf.Keyword.TheVariants.{True, False}
+use Rattle.rif_tree.specs.declared.keyword.Keyword.{Keyword}
+use Rattle.rif_tree.specs.declared.keyword.Keyword.TheVariants.{True, False}
 use Rattle.prd_grammar.specs.declared.leaf.Literal.{Literal}
 use Rattle.prd_grammar.specs.declared.leaf.Literal.TheVariants.{Integer, Boolean, String, Iri as IriLiteral}
 use Rattle.prd_grammar.specs.declared.leaf.Literal.TheVariants.{Local as LocalLiteral, OfNoType}

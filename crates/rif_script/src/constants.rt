@@ -6,7 +6,8 @@ ghost use Rattle.rif_script.specs.SentLeaves.{Gives, seen, with_seen};
 
 use crate::line_fault::LineFault;
 use crate::sent_tokens::SentTokens;
-use prd_reader::{Keyword, Leaf, Literal, TextPool};
+use prd_reader::{Leaf, Literal, TextPool};
+use rif_tree::Keyword;
 use rif_values::{Const, Integer, Listed, Text};
 
 /// The constant at the front, and the tokens behind it.

@@ -1,1 +1,5 @@
+pub mod CallerLemmas
 pub mod FreeLemmas
+pub mod NamesLemmas
+pub mod ReadyLemmas
+pub mod ScopedLemmas

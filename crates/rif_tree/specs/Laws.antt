@@ -1,13 +1,21 @@
--- What the words for variables promise.
+-- What the words for variables and names promise.
 --     AreSame us vs            two lists have the same variables
 --     AreAmong us vs           each variable of the one is among the other
 --     ArePartsFree             what a formula has free as a part is what it has free
 --     IsReadinessGrowing       what is ready is ready where more variables are bound
 --     IsReadinessOfMembers     readiness goes by which variables are bound, whatever their order and however often
 --     IsScopeOfMembers         and scope by which variables hold
--- Source: our own (docs/PROFILE.md, "Ready order").
-use Rattle.std.specs.Prelude.{◌≡◌, ℕ, true, List}
+--     AreFuncsNamed, ArePredsNamed, AreBuiltinsNamed, AreKeywordsNamed
+--                              a text is found as what it is the name of, and as nothing else
+-- Source: our own (docs/PROFILE.md, "Ready order"; docs/FORMATS.md, "Grammar" and "Built-ins").
+use Rattle.std.specs.Prelude.{◌≡◌, ◌↔◌, ℕ, true, List, Some}
+use Rattle.rif_tree.specs.declared.builtin.Builtin.{Builtin}
+use Rattle.rif_tree.specs.declared.builtin.Func.{Func}
+use Rattle.rif_tree.specs.declared.builtin.Pred.{Pred}
+use Rattle.rif_tree.specs.declared.keyword.Keyword.{Keyword}
 use Rattle.rif_tree.specs.declared.tree.Formula.{Formula}
+use Rattle.rif_tree.specs.BuiltinNames.{func_name, func_named, pred_name, pred_named, builtin_iri, builtin_named}
+use Rattle.rif_tree.specs.Keywords.{keyword_text, keyword_named}
 use Rattle.rif_tree.specs.Ready.{part_of, is_ready}
 use Rattle.rif_tree.specs.Scoped.{is_scoped}
 use Rattle.rif_tree.specs.Variables.{has_variable, free_of}
@@ -30,3 +38,15 @@ IsReadinessOfMembers = (f : Formula) (us vs : List ℕ) → AreSame us vs → is
 
 abbrev pub IsScopeOfMembers : Type 0
 IsScopeOfMembers = (f : Formula) (us vs : List ℕ) → AreSame us vs → is_scoped us f ≡ is_scoped vs f
+
+abbrev pub AreFuncsNamed : Type 0
+AreFuncsNamed = (f : Func) (name : List ℕ) → (func_named name ≡ Some f) ↔ (name ≡ func_name f)
+
+abbrev pub ArePredsNamed : Type 0
+ArePredsNamed = (p : Pred) (name : List ℕ) → (pred_named name ≡ Some p) ↔ (name ≡ pred_name p)
+
+abbrev pub AreBuiltinsNamed : Type 0
+AreBuiltinsNamed = (b : Builtin) (iri : List ℕ) → (builtin_named iri ≡ Some b) ↔ (iri ≡ builtin_iri b)
+
+abbrev pub AreKeywordsNamed : Type 0
+AreKeywordsNamed = (k : Keyword) (text : List ℕ) → (keyword_named text ≡ Some k) ↔ (text ≡ keyword_text k)

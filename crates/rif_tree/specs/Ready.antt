@@ -1,17 +1,17 @@
 -- Which formulas are ready, as they stand, for the variables that are bound: each conjunct is ready in its turn.
 --     is_ready bound f           whether a formula is ready where these variables are bound. What is ready binds all
 --                                its free variables, so that behind it they are bound as well
---     pattern_ready bound ts     the terms of an atom, a membership or a slot: all variables inside function terms are
---                                bound
---     equal_ready bound a b      an equality: all its variables are bound, or one side is a variable that isn't bound,
---                                and all variables of the other side are
+--     pattern_ready bound ts     the terms of an atom, a membership or a slot: all variables inside function terms
+--                                are bound
+--     equal_ready bound a b      an equality: all its variables are bound, or one side is a variable that isn't
+--                                bound, and all variables of the other side are
 --     slots_ready o pairs bound  a frame: it stands for its slots one by one, each a pattern of its own, which binds
 --                                its variables for the slots behind it
 --     each_ready parts bound     an `And`: each member, for what those before it leave bound
 --     branch_ready bound all p   a branch of an `Or`: it is ready, and then all free variables of the `Or` are bound
 --     part_of f                  a formula as a part of another: its free variables, and whether it is ready
--- A predicate is ready where all its variables are bound, and a `Not` where all its free variables are and its formula
--- is ready. An `Exists` is ready where its formula is: that none of its variables is bound outside is said by
+-- A predicate is ready where all its variables are bound, and a `Not` where all its free variables are and its
+-- formula is ready. An `Exists` is ready where its formula is: that none of its variables is bound outside is said by
 -- `is_scoped`.
 -- Source: RIF-PRD, "Safeness"; that readiness goes by the order of the conjuncts is our own (docs/PROFILE.md, "Ready
 -- order").

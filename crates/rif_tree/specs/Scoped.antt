@@ -3,7 +3,7 @@
 --                          holds, and no `Exists` declares one that holds already. A frame stands for its slots one
 --                          by one
 --     has_none held vs     whether none of vs holds
--- Source: RIF-PRD, "Formulas"; that each declaration is a variable of its own is our own (docs/FORMATS.md, "Grammar").
+-- Source: RIF-PRD, "Formulas"; that no variable is declared where it holds is our own (docs/FORMATS.md, "Refusals").
 use Rattle.std.specs.Prelude.{ℕ, Bool, not, ◌&&◌, List, ◌++◌}
 use Rattle.std.specs.List.{list_all, flat_map}
 use Rattle.rif_tree.specs.declared.tree.Formula.{Formula}

@@ -35,3 +35,17 @@ pub enum Pred {
     IsLiteralString,
     IsLiteralBoolean,
 }
+
+/// A built-in.
+#[derive(Clone, Copy)]
+pub enum Builtin {
+    Func(Func),
+    Pred(Pred),
+}
+
+/// The least and the greatest number of arguments that a built-in takes.
+#[derive(Clone, Copy)]
+pub struct Arity {
+    pub least: u64,
+    pub most: u64,
+}

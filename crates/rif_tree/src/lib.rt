@@ -2,25 +2,31 @@
 //!
 //! | File | Has | Its words |
 //! |---|---|---|
-//! | `tree.rt` | `Term`, `Formula`, `Level` | |
+//! | `tree.rt` | `Term`, `Formula`, `Level` | `specs/Variables.antt`, `specs/Ready.antt`, `specs/Scoped.antt` |
 //! | `rule.rt` | `Rule`, `Doc`, and what a rule's block has: a rule is a `Rule` | `specs/Rules.antt` |
-//! | `builtin.rt` | `Func`, `Pred`: the built-ins by name | |
+//! | `builtin.rt` | `Func`, `Pred`, `Builtin`: the built-ins; `Arity` | |
+//! | `builtin_names.rt` | their names and numbers of arguments | `specs/BuiltinNames.antt` |
+//! | `keyword.rt` | `Keyword`: the words that the grammar spells | `specs/Keywords.antt` |
 //! | `copying.rt` | how a tree is copied | |
-//! | `laws.rt` | laws of free variables, of what is ready and of scopes | `specs/Laws.antt` |
-//!
-//! What of a term or formula is a variable, free, ready or in scope stands in `specs/Variables.antt`, `specs/Ready.antt`
-//! and `specs/Scoped.antt`.
+//! | `laws.rt` | laws of what is free, ready and in scope, and of names | `specs/Laws.antt` |
 //!
 //! Begin at `Doc`.
 #![tactic(auto)]
 
 mod builtin;
+mod builtin_names;
 mod copying;
+mod keyword;
 mod laws;
 mod rule;
 mod tree;
 
-pub use builtin::{Func, Pred};
-pub use laws::parts_have_what_is_free;
+pub use builtin::{Arity, Builtin, Func, Pred};
+pub use builtin_names::{func_namespace, pred_namespace};
+pub use keyword::{KEYWORDS, Keyword};
+pub use laws::{
+    builtins_are_named, functions_are_named, keywords_are_named, parts_have_what_is_free,
+    predicates_are_named, readiness_grows, readiness_is_of_members, scope_is_of_members,
+};
 pub use rule::{Action, Decl, Doc, Rule, Target};
 pub use tree::{Formula, Level, Term};

@@ -1,8 +1,8 @@
 //! Words that stand for leaves, with what they lead to.
-use prd_grammar::{Builtin, BuiltinName, Cause, Keyword, Leaf};
+use prd_grammar::{BuiltinName, Cause, Leaf};
 use prd_recognition::{Outcome, recognize};
 use rif_refusals::Counted;
-use rif_tree::Func;
+use rif_tree::{Builtin, Func, Keyword};
 use rif_values::{OutOfMemory, Text};
 use std::alloc::Global;
 use std::test::Fail;

@@ -11,7 +11,8 @@ ghost use Rattle.prd_recognition.specs.Recognizing.{Goes};
 use crate::following::putting::{put, put_pairs, put_three, put_two};
 use crate::following::terms::{advance_named, advance_term, advance_term_before};
 use crate::want::Want;
-use prd_grammar::{Keyword, Leaf};
+use prd_grammar::Leaf;
+use rif_tree::Keyword;
 use rif_values::{OutOfMemory, Text};
 use std::collections::VecDeque;
 

@@ -7,7 +7,8 @@ ghost use Rattle.prd_recognition.specs.Recognizing.{Goes};
 use crate::following::putting::{put, put_pairs, put_three, put_two};
 use crate::following::terms::advance_named;
 use crate::want::Want;
-use prd_grammar::{Builtin, BuiltinName, Keyword, Leaf};
+use prd_grammar::{BuiltinName, Leaf};
+use rif_tree::{Builtin, Keyword};
 use rif_values::OutOfMemory;
 use std::collections::VecDeque;
 

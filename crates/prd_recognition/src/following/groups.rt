@@ -8,7 +8,8 @@ ghost use Rattle.prd_recognition.specs.Recognizing.{Goes};
 use crate::following::putting::{put, put_three, put_two};
 use crate::following::rules::advance_rule_before;
 use crate::want::Want;
-use prd_grammar::{Keyword, Leaf};
+use prd_grammar::Leaf;
+use rif_tree::Keyword;
 use rif_values::OutOfMemory;
 use std::collections::VecDeque;
 

@@ -6,7 +6,8 @@ ghost use Rattle.prd_recognition.specs.Recognizing.{Goes};
 
 use crate::following::putting::{put, put_three, put_two};
 use crate::want::Want;
-use prd_grammar::{Builtin, BuiltinName, Keyword, Leaf, Literal};
+use prd_grammar::{BuiltinName, Leaf, Literal};
+use rif_tree::{Builtin, Keyword};
 use rif_values::OutOfMemory;
 use std::collections::VecDeque;
 
