@@ -40,8 +40,8 @@ pub fn is_done(stack: &VecDeque<Want>) -> bool
 /// What has still to come behind one more leaf, the first of it in front. The answer is false where the leaf can't
 /// come; then, and after want of memory, what has still to come is left open.
 ///
-/// It takes constant time, but where a variable's name has to come again, which is compared; and memory for what comes
-/// in place of the first.
+/// It takes constant time, but where a variable's name has to come again, which is compared; and memory for what
+/// comes in place of the first.
 ///
 /// Source: our own (docs/FORMATS.md, "Grammar").
 pub fn advance(stack: &mut VecDeque<Want>, leaf: &Leaf) -> Result<bool, OutOfMemory>
