@@ -7,7 +7,8 @@
 --     insert_present ..           sets that stay as they are
 --     first_ ..                   the first of a set is the least
 pub use Rattle.rif_sets.proofs.SetsMembers.{equal_is, equal_itself, same_set}
-pub use Rattle.rif_sets.proofs.SetsMembers.{has_contains, has_append, has_filter, has_insert, has_with_all, has_ordered}
+pub use Rattle.rif_sets.proofs.SetsMembers.{has_contains, has_append, has_filter, has_insert, has_with_all}
+pub use Rattle.rif_sets.proofs.SetsMembers.{has_ordered}
 pub use Rattle.rif_sets.proofs.SetsMembers.{set_empty, set_insert, set_with_all, set_ordered, set_filter}
 pub use Rattle.rif_sets.proofs.SetsChanges.{has_beyond, has_patched, set_beyond, set_patched, gives_of_net}
 pub use Rattle.rif_sets.proofs.SetsSteps.{is_ordered, ordered_same, ordered_alike, insert_present, remove_absent}

@@ -8,7 +8,8 @@
 //! | `numbers.rt` | the n-th of a list, counted from 1 | `specs/Numbers.antt` |
 //! | `integer.rt` | `Integer`, the type and range of integers | |
 //! | `constant.rt`, `fact.rt` | `Const`, `Fact` and the places of a fact | `specs/Order.antt`, `specs/Places.antt` |
-//! | `binding.rt`, `instance.rt` | `Binding`, `Instance`: a rule with the values of its variables | `specs/Bindings.antt`, `specs/InstanceOrder.antt` |
+//! | `binding.rt` | `Binding`, the values of variables | `specs/Bindings.antt` |
+//! | `instance.rt` | `Instance`, a rule with the values of its variables | `specs/InstanceOrder.antt` |
 //! | `rows.rt` | the pairs of a row with one more variable, or without some | `specs/Bindings.antt` |
 //! | `change.rt` | `Change`, `Delta`, `RowDelta`: changes and net changes | `specs/Facts.antt` |
 //! | `writing.rt` | constants and facts as text | `specs/Writing.antt` |
