@@ -1,16 +1,19 @@
 -- What the evaluation of a ready formula binds.
 use Rattle.std.proofs.Common.{◌≡◌, ℕ, Bool, true, false, not, ◌&&◌, ◌||◌, ◌==◌, List, [], ◌∷◌, ◌++◌, length, map}
-use Rattle.std.proofs.Common.{Some, None, cond, filter, ap, ap₂, ◌∙◌, sym, refl, subst, arith, append_assoc}
+use Rattle.std.proofs.Common.{Some, None, filter, ap, ◌∙◌, sym, refl, subst, arith, append_assoc}
 use Rattle.std.proofs.Common.{append-nil}
-use Rattle.std.specs.List.{All, AllByRecursion, list_any, list_all, flat_map, filter_map, cons_option}
+use Rattle.std.specs.List.{All, AllByRecursion, list_all, flat_map, filter_map, cons_option}
 use Rattle.std.specs.Option.{IfSome}
 use Rattle.std.specs.declared.option.Option.{Option}
 use Rattle.std.proofs.lemmas.Bool.Decides.{nat_tests}
-use Rattle.std.proofs.lemmas.List.Elements.{All-from_recursion}
-use Rattle.rif_values.specs.declared.fact.Fact.{Fact}
-use Rattle.rif_values.specs.Bindings.{Row, IsBinding, without_variables}
+use Rattle.std.proofs.lemmas.List.Elements.{All-from_recursion, recursion_from_All, All-filter, All-contains}
+use Rattle.std.proofs.lemmas.Cmp.{eq_by_cmp_equiv}
+use Rattle.std.proofs.lemmas.Map.Views.{All-from_any}
+use Rattle.rif_values.specs.Bindings.{Row, without_variables}
 use Rattle.rif_values.specs.Order.{binding_cmp}
-use Rattle.rif_sets.proofs.SetsMembers.{all_with_all, all_filter}
+use Rattle.rif_values.specs.Sets.{ordered}
+use Rattle.rif_sets.proofs.CallerLemmas.{has_ordered}
+use Rattle.rif_values.proofs.CallerLemmas.{total_bindings, exact_bindings}
 use Rattle.rif_tree.specs.declared.tree.Term.{Term}
 use Rattle.rif_tree.specs.declared.tree.Formula.{Formula, map-Formula, roll-Formula}
 use Rattle.rif_tree.specs.declared.tree.Formula.TheOpen.{Formula-F, And as AndLayer, Or as OrLayer, Not as NotLayer}
@@ -19,11 +22,12 @@ use Rattle.rif_tree.specs.declared.tree.Formula.TheOpen.{Member as MemberLayer, 
 use Rattle.rif_tree.specs.declared.tree.Formula.TheOpen.{Atom as AtomLayer, Holds as HoldsLayer}
 use Rattle.rif_tree.specs.declared.tree.Formula.TheFolds.{fold-Formula, fold-roll-Formula, ind-Formula}
 use Rattle.rif_tree.specs.Laws.{AreSame, AreAmong}
-use Rattle.rif_tree.specs.Ready.{Part, part_of, part_step, free_in, each_ready, branch_ready, branches_ready}
+use Rattle.rif_tree.specs.Ready.{Part, part_of, part_step, free_in, each_ready, branch_ready}
 use Rattle.rif_tree.specs.Ready.{pattern_ready, slots_ready, equal_ready, is_ready}
 use Rattle.rif_tree.specs.Scoped.{is_scoped, scoped_step, has_none}
 use Rattle.rif_tree.specs.Variables.{has_variable, has_all, without, variables_of, variables_of_pair, slots_free}
-use Rattle.rif_tree.proofs.CallerLemmas.{and_first, and_second, or_first, or_second, or_either, same_tests, has_append}
+use Rattle.rif_tree.proofs.CallerLemmas.{and_first, and_second, same_tests}
+use Rattle.rif_tree.proofs.CallerLemmas.{has_append}
 use Rattle.rif_tree.proofs.CallerLemmas.{has_all_elim, has_all_intro, has_all_append, has_all_more, among_front}
 use Rattle.rif_tree.proofs.CallerLemmas.{among_back, among_append, has_without}
 use Rattle.rif_tree.proofs.FreeLemmas.{part_free}
@@ -35,6 +39,7 @@ use Rattle.rif_builtins.specs.Extensions.{holds_at, through, through_step, exten
 use Rattle.rif_builtins.specs.ExtensionLaws.{variables_in, IsExtension, terms_of, IsEvaluationBinding}
 use Rattle.rif_builtins.specs.Values.{values_of}
 use Rattle.rif_builtins.proofs.EqualLemmas.{equal_gives}
+use Rattle.rif_builtins.proofs.MemberLemmas.{row_in}
 use Rattle.rif_builtins.proofs.PatternLemmas.{if_some, fact_gives}
 use Rattle.rif_builtins.proofs.RowLemmas.{extends_itself, extends_same, extends_on, extends_without, same_within}
 
@@ -75,7 +80,8 @@ held_outside held vs free all = has_all_intro held (without vs free) (λ v has.
     or_false true b fails is = refl
     or_false false b fails is = sym fails ∙ is
 
-    at : (v : ℕ) (there gone : Bool) → has_variable free v ≡ there → has_variable vs v ≡ gone → (there && not gone) ≡ true
+    at : (v : ℕ) (there gone : Bool) → has_variable free v ≡ there → has_variable vs v ≡ gone
+        → (there && not gone) ≡ true
         → has_variable held v ≡ true
     at v true false there gone is =
         or_false (has_variable held v) (has_variable vs v) gone
@@ -109,7 +115,8 @@ pub free_holds : (f : Formula) → FreeHolds f
 free_holds = ind-Formula FreeHolds (λ x y is. subst (λ z. FreeHolds (roll-Formula z)) is (layer_holds y))
 
 -- what an `Exists` declares isn't bound
-apart_at : (held us : List ℕ) (u v : ℕ) (held_first is_it : Bool) → has_variable held u ≡ held_first → (u == v) ≡ is_it
+apart_at : (held us : List ℕ) (u v : ℕ) (held_first is_it : Bool) → has_variable held u ≡ held_first
+    → (u == v) ≡ is_it
     → (has_none held us ≡ true → has_variable us v ≡ true → has_variable held v ≡ false)
     → (not held_first && has_none held us) ≡ true → (is_it || has_variable us v) ≡ true → has_variable held v ≡ false
 apart_at held us u v true is_it' first is_it rest apart has = absurd (cc apart)
@@ -117,10 +124,12 @@ apart_at held us u v false true first is_it rest apart has =
     let same : u ≡ v = grind (arith, nat_tests) in subst (λ w. has_variable held w ≡ false) same first
 apart_at held us u v false false first is_it rest apart has = rest apart has
 
-apart_from : (held vs : List ℕ) (v : ℕ) → has_none held vs ≡ true → has_variable vs v ≡ true → has_variable held v ≡ false
+apart_from : (held vs : List ℕ) (v : ℕ) → has_none held vs ≡ true → has_variable vs v ≡ true
+    → has_variable held v ≡ false
 apart_from held [] v apart has = absurd (cc has)
 apart_from held (u ∷ us) v apart has =
-    apart_at held us u v (has_variable held u) (u == v) refl refl (λ more one. apart_from held us v more one) apart has
+    apart_at held us u v (has_variable held u) (u == v) refl refl
+    (λ more one. apart_from held us v more one) apart has
 
 declared_apart : (held bound vs : List ℕ) → has_all held bound ≡ true → has_none held vs ≡ true
     → (v : ℕ) → has_variable bound v ≡ true → has_variable vs v ≡ false
@@ -137,9 +146,22 @@ pub each_one : (P Q : Row → Type 0) (rows : List Row) → ((row : Row) → P r
 each_one P Q [] to each = tt
 each_one P Q (row ∷ rows) to each = (to row each.0, each_one P Q rows to each.1)
 
-each_append : (P : Row → Type 0) (xs ys : List Row) → AllByRecursion P xs → AllByRecursion P ys → AllByRecursion P (xs ++ ys)
+each_append : (P : Row → Type 0) (xs ys : List Row) → AllByRecursion P xs → AllByRecursion P ys
+    → AllByRecursion P (xs ++ ys)
 each_append P [] ys first second = second
 each_append P (x ∷ xs) ys first second = (first.0, each_append P xs ys first.1 second)
+
+each_filter : (P : Row → Type 0) (test : Row → Bool) (rows : List Row) → AllByRecursion P rows
+    → AllByRecursion P (filter test rows)
+each_filter P test rows each =
+    recursion_from_All P (filter test rows) (All-filter test P rows (All-from_recursion P rows each))
+
+-- of each row that is put in order
+all_ordered : (P : Row → Type 0) (rows : List Row) → All P rows → All P (ordered binding_cmp rows)
+all_ordered P rows all =
+    All-from_any (eq_by_cmp_equiv total_bindings) P (ordered binding_cmp rows) (λ next has.
+    All-contains P rows next all
+    ((row_in rows next).0 (sym (has_ordered total_bindings exact_bindings rows next) ∙ has)))
 
 found_one : (P : Row → Type 0) (o : Option Row) (rows : List Row) → IfSome o P → AllByRecursion P rows
     → AllByRecursion P (cons_option o rows)
@@ -223,7 +245,8 @@ module _ (base : FactBase) (start : Row) where
   equal_from a b (row ∷ rows) vs each ready =
       let us = vs ++ (variables_of a ++ variables_of b) in
       found_one (IsExtension start us) (equal_row a b row) (filter_map (equal_row a b) rows)
-      (if_some _ (IsExtension start us) (equal_row a b row) (λ next gives. extends_on start row next vs us each.0 gives.0)
+      (if_some _ (IsExtension start us) (equal_row a b row)
+      (λ next gives. extends_on start row next vs us each.0 gives.0)
       (equal_gives a b row vs (extends_itself row vs each.0.in_order each.0.variables) ready))
       (equal_from a b rows vs each.1 ready)
 
@@ -232,12 +255,14 @@ module _ (base : FactBase) (start : Row) where
       → From (bound ++ without vs free) (map (without_variables vs) rows)
   exists_from vs bound free [] within apart each = tt
   exists_from vs bound free (row ∷ rows) within apart each =
-      (extends_without start row bound free vs within apart each.0, exists_from vs bound free rows within apart each.1)
+      let rest = exists_from vs bound free rows within apart each.1 in
+      (extends_without start row bound free vs within apart each.0, rest)
 
   and_from : (es : List Known) (held bound : List ℕ) (rows : List Row) → has_all held bound ≡ true
       → all_scoped (map formula_in es) held ≡ true → each_ready (map part_of (map formula_in es)) bound ≡ true
       → AreAmong (variables_in start) bound → From bound rows
-      → From (bound ++ free_in (map part_of (map formula_in es))) (in_turn (map (through base) (map formula_in es)) rows)
+      → From (bound ++ free_in (map part_of (map formula_in es)))
+      (in_turn (map (through base) (map formula_in es)) rows)
   and_from [] held bound rows within scoped ready among each =
       from_same bound (bound ++ []) rows (same_within bound [] refl) each
   and_from (e ∷ es) held bound rows within scoped ready among each =
@@ -249,7 +274,8 @@ module _ (base : FactBase) (start : Row) where
       let first = e.1 held bound rows within one (and_first ((part_of e.0).is_ready bound) more ready) among each in
       subst (λ (xs : List ℕ). From xs (in_turn (map (through base) fs) (through base e.0 rows)))
       (append_assoc bound vs (free_in (map part_of fs)))
-      (and_from es held (bound ++ vs) (through base e.0 rows) (has_all_append held bound vs within (free_holds e.0 held one))
+      (and_from es held (bound ++ vs) (through base e.0 rows)
+      (has_all_append held bound vs within (free_holds e.0 held one))
       (and_second here (all_scoped fs held) scoped) (and_second ((part_of e.0).is_ready bound) more ready)
       (λ v has. among_front bound vs v (among v has)) first)
 
@@ -257,7 +283,8 @@ module _ (base : FactBase) (start : Row) where
       → has_all all (free_in (map part_of (map formula_in es))) ≡ true → all_scoped (map formula_in es) held ≡ true
       → list_all (branch_ready bound all) (map part_of (map formula_in es)) ≡ true
       → AreAmong (variables_in start) bound → From bound rows
-      → From (bound ++ all) (flat_map (λ (step : List Row → List Row). step rows) (map (through base) (map formula_in es)))
+      → From (bound ++ all) (flat_map (λ (step : List Row → List Row). step rows)
+      (map (through base) (map formula_in es)))
   or_from [] held bound all rows within part scoped ready among each = tt
   or_from (e ∷ es) held bound all rows within part scoped ready among each =
       let fs = map formula_in es in
@@ -271,10 +298,12 @@ module _ (base : FactBase) (start : Row) where
       let among_all = has_all_elim all (vs ++ rest) part in
       let mine = has_all_intro all vs (λ v has. among_all v (among_front vs rest v has)) in
       let others = has_all_intro all rest (λ v has. among_all v (among_back vs rest v has)) in
-      let found = e.1 held bound rows within (and_first here (all_scoped fs held) scoped) (and_first is whole this) among each in
+      let found = e.1 held bound rows within (and_first here (all_scoped fs held) scoped)
+      (and_first is whole this) among each in
       each_append (IsExtension start (bound ++ all)) (through base e.0 rows)
       (flat_map (λ (step : List Row → List Row). step rows) (map (through base) fs))
-      (from_same (bound ++ vs) (bound ++ all) (through base e.0 rows) (branch_same bound all vs mine (and_second is whole this)) found)
+      (from_same (bound ++ vs) (bound ++ all) (through base e.0 rows)
+      (branch_same bound all vs mine (and_second is whole this)) found)
       (or_from es held bound all rows within others (and_second here (all_scoped fs held) scoped)
       (and_second (branch_ready bound all (part_of e.0)) more ready) among each)
 
@@ -294,10 +323,11 @@ module _ (base : FactBase) (start : Row) where
       let test = λ (row : Row). length (through base e.0 (row ∷ [])) == 0 in
       from_same bound (bound ++ vs) (filter test rows)
       (same_within bound vs (and_first (has_all bound vs) ((part_of e.0).is_ready bound) ready))
-      (all_filter (IsExtension start bound) test rows each)
+      (each_filter (IsExtension start bound) test rows each)
   inside_from (ExistsLayer vs e) held bound rows within scoped ready among each =
       let apart = and_first (has_none held vs) (scope_of e.0 (held ++ vs)) scoped in
-      exists_from vs bound (part_of e.0).free (through base e.0 rows) among (declared_apart held bound vs within apart)
+      exists_from vs bound (part_of e.0).free (through base e.0 rows) among
+      (declared_apart held bound vs within apart)
       (e.1 (held ++ vs) bound rows
       (has_all_more held (held ++ vs) bound (among_front held vs) within)
       (and_second (has_none held vs) (scope_of e.0 (held ++ vs)) scoped) ready among each)
@@ -306,13 +336,15 @@ module _ (base : FactBase) (start : Row) where
       subst (λ (xs : List ℕ). From (bound ++ xs) (matched base (MemberPattern o c) rows))
       (ap (λ (xs : List ℕ). variables_of o ++ xs) (append-nil (variables_of c)))
       (matched_from (MemberPattern o c) rows bound each ready)
-  inside_from (FrameLayer o pairs) held bound rows within scoped ready among each = slots_from o pairs rows bound each ready
-  inside_from (AtomLayer p ts) held bound rows within scoped ready among each = matched_from (AtomPattern p ts) rows bound each ready
+  inside_from (FrameLayer o pairs) held bound rows within scoped ready among each =
+      slots_from o pairs rows bound each ready
+  inside_from (AtomLayer p ts) held bound rows within scoped ready among each =
+      matched_from (AtomPattern p ts) rows bound each ready
   inside_from (HoldsLayer pred ts) held bound rows within scoped ready among each =
       let vs = flat_map variables_of ts in
       let test = λ (row : Row). holds_at pred (values_of row ts) in
       from_same bound (bound ++ vs) (filter test rows) (same_within bound vs ready)
-      (all_filter (IsExtension start bound) test rows each)
+      (each_filter (IsExtension start bound) test rows each)
 
   layer_from : (y : Formula-F Known) → Claim (roll-Formula (formulas_in y))
   layer_from y held bound rows within scoped ready among each =
@@ -323,7 +355,8 @@ module _ (base : FactBase) (start : Row) where
       (sym (ap (λ (scope : List ℕ → Bool). scope held) (fold-roll-Formula (List ℕ → Bool) scoped_step x)) ∙ scoped)
       (sym (ap (λ (p : Part). p.is_ready bound) part) ∙ ready) among each in
       subst (λ (p : Part). From (bound ++ p.free) (through base (roll-Formula x) rows)) (sym part)
-      (subst (λ (k : List Row → List Row). From (bound ++ (part_step (map-Formula Formula Part part_of x)).free) (k rows))
+      (subst (λ (k : List Row → List Row). From (bound ++ (part_step (map-Formula Formula Part part_of x)).free)
+      (k rows))
       (sym step) found)
 
   pub through_from : (f : Formula) → Claim f
@@ -335,6 +368,7 @@ evaluation_binds base f held vs row in_order same within scoped ready =
     let rows = through base f (row ∷ []) in
     let each = through_from base row f held vs (row ∷ []) within scoped ready (λ v has. sym (same v) ∙ has)
     (extends_itself row vs in_order same, tt) in
-    let sorted = all_with_all binding_cmp P [] rows tt each in
-    subst (λ (xs : List ℕ). All (IsExtension row (vs ++ xs)) rows × All (IsExtension row (vs ++ xs)) (extensions_of base row f))
-    (part_free f) (All-from_recursion P rows each, All-from_recursion P (extensions_of base row f) sorted)
+    let all = All-from_recursion P rows each in
+    subst (λ (xs : List ℕ). All (IsExtension row (vs ++ xs)) rows × All (IsExtension row (vs ++ xs))
+    (extensions_of base row f))
+    (part_free f) (all, all_ordered P rows all)

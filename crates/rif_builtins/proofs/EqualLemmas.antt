@@ -1,26 +1,28 @@
 -- An equality: what it binds, and that its row is the one that does so.
-use Rattle.std.proofs.Common.{◌≡◌, ℕ, Bool, true, false, not, ◌&&◌, ◌||◌, List, [], ◌∷◌, ◌++◌, Some, None}
-use Rattle.std.proofs.Common.{◌↔◌, ◌⊎◌, ap, ap₂, ◌∙◌, sym, refl, subst, arith, inl, inr, ⊎_elim}
+use Rattle.std.proofs.Common.{◌≡◌, ℕ, Bool, true, false, not, ◌&&◌, ◌||◌, List, [], ◌++◌, Some, None}
+use Rattle.std.proofs.Common.{◌⊎◌, ap, ◌∙◌, sym, refl, subst, inl, inr, ⊎_elim}
 use Rattle.std.specs.Option.{IfSome, option_and_then}
 use Rattle.std.specs.declared.option.Option.{Option}
 use Rattle.rif_values.specs.declared.constant.Const.{Const}
-use Rattle.rif_values.specs.Bindings.{Row, IsBinding, value_at}
+use Rattle.rif_values.specs.Bindings.{Row, IsBinding}
 use Rattle.rif_tree.specs.declared.tree.Term.{Term}
 use Rattle.rif_tree.specs.Laws.{AreSame, AreAmong}
 use Rattle.rif_tree.specs.Ready.{equal_ready, is_unbound_in, is_unbound_variable}
 use Rattle.rif_tree.specs.Variables.{has_variable, has_all, variable_of, variables_of, called_variables_of}
-use Rattle.rif_tree.proofs.CallerLemmas.{and_first, and_second, or_first, or_second, same_tests, has_append, has_all_elim}
-use Rattle.rif_tree.proofs.CallerLemmas.{among_front, among_back, among_append, or_either}
+use Rattle.rif_tree.proofs.CallerLemmas.{and_first, and_second, same_tests}
+use Rattle.rif_tree.proofs.CallerLemmas.{has_all_elim}
+use Rattle.rif_tree.proofs.CallerLemmas.{among_front, among_back, among_append}
 use Rattle.rif_builtins.specs.Extensions.{match_term, equal_row}
 use Rattle.rif_builtins.specs.ExtensionLaws.{variables_in, IsExtension, IsEquating, IsEqualityExact}
 use Rattle.rif_builtins.specs.Values.{value_of}
-use Rattle.rif_builtins.proofs.PatternLemmas.{variable_value, kept_value, if_some, Gives, term_gives, found_term, some_const}
-use Rattle.rif_builtins.proofs.RowLemmas.{value_has, Keeps, extends_itself, extends_same, same_extension}
+use Rattle.rif_builtins.proofs.PatternLemmas.{variable_value, kept_value, if_some, Gives, term_gives, found_term}
+use Rattle.rif_builtins.proofs.RowLemmas.{some_same, value_has, Keeps, extends_itself, extends_same, same_extension}
 
 -- ---- which side is ready
 
 -- a variable with a value isn't unbound
-bound_value : (t : Term) (row : Row) (c : Const) (vs : List ℕ) → AreSame (variables_in row) vs → value_of row t ≡ Some c
+bound_value : (t : Term) (row : Row) (c : Const) (vs : List ℕ) → AreSame (variables_in row) vs
+    → value_of row t ≡ Some c
     → is_unbound_variable vs t ≡ false
 bound_value t row c vs same is = at (variable_of t) refl
   where
@@ -56,7 +58,8 @@ left_ready false false true false is none = is
 left_ready false false false true is none = absurd (cc none)
 left_ready false false false false is none = is
 
-right_ready : (a b ua ub : Bool) → ((a && b) || ((ua && b) || (ub && a))) ≡ true → ua ≡ false → (a && (b || ub)) ≡ true
+right_ready : (a b ua ub : Bool) → ((a && b) || ((ua && b) || (ub && a))) ≡ true → ua ≡ false
+    → (a && (b || ub)) ≡ true
 right_ready true true ua ub is none = refl
 right_ready true false true ub is none = absurd (cc none)
 right_ready true false false true is none = refl
@@ -103,7 +106,8 @@ pub equal_gives : (a b : Term) (row : Row) (vs : List ℕ) → IsExtension row v
     → IfSome (equal_row a b row) (Equates a b row vs)
 equal_gives a b row vs here ready = at (value_of row b) refl
   where
-    right : (o : Option Const) → value_of row a ≡ o → IfSome (option_and_then (match_term row b) o) (Equates a b row vs)
+    right : (o : Option Const) → value_of row a ≡ o
+        → IfSome (option_and_then (match_term row b) o) (Equates a b row vs)
     right None is = tt
     right (Some c) is =
         let both = right_ready (has_all vs (variables_of a)) (has_all vs (variables_of b)) (is_unbound_variable vs a)
@@ -142,7 +146,7 @@ side_found : (t other : Term) (row next : Row) (c d : Const) (vs all : List ℕ)
     → IsExtension row all next → match_term row t d ≡ Some next
 side_found t other row next c d vs all here called whole is one two same e =
     let us = variables_of t in
-    let alike : c ≡ d = some_const c d (sym two ∙ bound_keeps other row next d vs here e.values whole is) in
+    let alike : c ≡ d = some_same c d (sym two ∙ bound_keeps other row next d vs here e.values whole is) in
     let found = found_term t row next d vs here e.values called (one ∙ ap Some alike) in
     let gives = subst (λ o. IfSome o (Gives row (vs ++ us) t d)) found.1 (term_gives t row d vs here called) in
     found.1
@@ -185,7 +189,8 @@ found_at a b row next vs here ready e c one two = at (value_of row b) refl
         (second_alone vs (variables_of a) (variables_of b) all) e
 
     at : (o : Option Const) → value_of row b ≡ o
-        → elim o [ Some d ↦ match_term row a d | None ↦ option_and_then (match_term row b) (value_of row a) ] ≡ Some next
+        → elim o [ Some d ↦ match_term row a d | None ↦ option_and_then (match_term row b) (value_of row a) ]
+        ≡ Some next
     at None none = right (value_of row a) none refl
     at (Some d) is =
         let both = left_ready (has_all vs (variables_of a)) (has_all vs (variables_of b)) (is_unbound_variable vs a)

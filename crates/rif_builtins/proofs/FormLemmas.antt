@@ -1,6 +1,7 @@
 -- What each form of formula gives.
-use Rattle.std.proofs.Common.{◌≡◌, ◌↔◌, ◌⊎◌, ℕ, zero, suc, Bool, true, false, not, ◌&&◌, ◌||◌, ◌==◌, List, [], ◌∷◌, ◌++◌}
-use Rattle.std.proofs.Common.{length, map, filter, Some, None, ap, ap₂, ◌∙◌, sym, refl, subst, arith, inl, inr, ⊎_elim}
+use Rattle.std.proofs.Common.{◌≡◌, ◌↔◌, ◌⊎◌, ℕ, suc, Bool, true, false, ◌&&◌, ◌||◌, ◌==◌, List, [], ◌∷◌}
+use Rattle.std.proofs.Common.{◌++◌}
+use Rattle.std.proofs.Common.{length, map, filter, Some, None, ap, ap₂, ◌∙◌, sym, refl, subst, arith, inl, inr}
 use Rattle.std.specs.List.{Contains, list_any, flat_map, filter_map}
 use Rattle.std.specs.declared.option.Option.{Option}
 use Rattle.std.proofs.lemmas.List.Folds.{list_any-append, flat_map-map}
@@ -10,13 +11,15 @@ use Rattle.rif_values.specs.declared.fact.Fact.{Fact}
 use Rattle.rif_values.specs.Bindings.{Row, without_variables}
 use Rattle.rif_values.specs.Order.{binding_cmp}
 use Rattle.rif_values.specs.Sets.{ordered}
-use Rattle.rif_values.proofs.OrderLemmas.{total_bindings, exact_bindings}
-use Rattle.rif_sets.proofs.SetsMembers.{set_ordered, has_ordered}
+use Rattle.rif_values.proofs.CallerLemmas.{total_bindings, exact_bindings}
+use Rattle.rif_sets.proofs.CallerLemmas.{set_ordered, has_ordered}
 use Rattle.rif_tree.specs.declared.builtin.Pred.{Pred}
+use Rattle.rif_tree.proofs.CallerLemmas.{and_first, and_second, or_first, or_second}
 use Rattle.rif_tree.specs.declared.tree.Term.{Term}
 use Rattle.rif_tree.specs.declared.tree.Formula.{Formula, map-Formula, roll-Formula}
 use Rattle.rif_tree.specs.declared.tree.Formula.TheVariants.{And, Or, Not, Exists, Equal, Member, Frame, Atom, Holds}
-use Rattle.rif_tree.specs.declared.tree.Formula.TheVariants.{rolls-And, rolls-Or, rolls-Not, rolls-Exists, rolls-Equal}
+use Rattle.rif_tree.specs.declared.tree.Formula.TheVariants.{rolls-And, rolls-Or, rolls-Not, rolls-Exists}
+use Rattle.rif_tree.specs.declared.tree.Formula.TheVariants.{rolls-Equal}
 use Rattle.rif_tree.specs.declared.tree.Formula.TheVariants.{rolls-Member, rolls-Frame, rolls-Atom, rolls-Holds}
 use Rattle.rif_tree.specs.declared.tree.Formula.TheOpen.{Formula-F, And as AndLayer, Or as OrLayer, Not as NotLayer}
 use Rattle.rif_tree.specs.declared.tree.Formula.TheOpen.{Exists as ExistsLayer, Equal as EqualLayer}
@@ -27,13 +30,13 @@ use Rattle.rif_builtins.specs.declared.pattern.Pattern.{Pattern}
 use Rattle.rif_builtins.specs.declared.pattern.Pattern.TheVariants.{Atom as AtomPattern, Slot as SlotPattern}
 use Rattle.rif_builtins.specs.declared.pattern.Pattern.TheVariants.{Member as MemberPattern}
 use Rattle.rif_builtins.specs.Extensions.{FactBase, matchable, match_fact, matched, in_turn, slots_of, equal_row}
-use Rattle.rif_builtins.specs.Extensions.{holds_at, through, through_step, extensions_of}
+use Rattle.rif_builtins.specs.Extensions.{holds_at, through, through_step}
 use Rattle.rif_builtins.specs.ExtensionLaws.{IsOneByOne, IsOfBoth, IsMatched, IsFormByForm, GoesByForm}
 use Rattle.rif_builtins.specs.ExtensionLaws.{IsSetOfExtensions}
 use Rattle.rif_builtins.specs.Values.{values_of}
 use Rattle.rif_builtins.proofs.MemberLemmas.{any_to, any_from, any_same, any_map, any_filter, any_flat, passes}
-use Rattle.rif_builtins.proofs.MemberLemmas.{any_filter_map, is_row, row_same, row_itself, row_in, row_by, IsSpread}
-use Rattle.rif_builtins.proofs.MemberLemmas.{spread_matched, spread_through, one_by_one}
+use Rattle.rif_builtins.proofs.MemberLemmas.{any_filter_map, is_row, row_same, row_itself, row_in, row_by}
+use Rattle.rif_builtins.proofs.MemberLemmas.{spread_through, one_by_one}
 
 -- ---- the equations of `through`
 
@@ -46,7 +49,8 @@ module _ (base : FactBase) where
       → through base f rows ≡ through_step base (map-Formula Formula (List Row → List Row) (through base) x) rows
   through_layer f x is rows = ap (λ (step : List Row → List Row). step rows) (through_at f x is)
 
-  pub through_and : (fs : List Formula) (rows : List Row) → through base (And fs) rows ≡ in_turn (map (through base) fs) rows
+  pub through_and : (fs : List Formula) (rows : List Row)
+      → through base (And fs) rows ≡ in_turn (map (through base) fs) rows
   through_and fs rows = through_layer (And fs) (AndLayer fs) (sym (rolls-And fs)) rows
 
   pub through_or : (fs : List Formula) (rows : List Row)
@@ -93,46 +97,36 @@ passes_from next o is = ap (passes (is_row next)) is ∙ row_itself next
 both_true : (a b : Bool) → a ≡ true → b ≡ true → (a && b) ≡ true
 both_true a b first second = ap₂ (λ x y. x && y) first second
 
-first_true : (a b : Bool) → (a && b) ≡ true → a ≡ true
-first_true true b is = refl
-first_true false b is = absurd (cc is)
-
-second_true : (a b : Bool) → (a && b) ≡ true → b ≡ true
-second_true true b is = is
-second_true false b is = absurd (cc is)
-
 -- the rows that pass a test
 filter_has : (keeps : Row → Bool) (rows : List Row) (next : Row)
     → Contains (filter keeps rows) next ↔ (Contains rows next × (keeps next ≡ true))
 filter_has keeps rows next =
-    let by = row_by (filter keeps rows) next (λ row. keeps row && is_row next row) rows (any_filter (is_row next) keeps rows) in
-    (
-    λ there. let found = by.0 there in
-        let same = row_same next found.0 (second_true (keeps found.0) (is_row next found.0) found.2) in
-        (
-        subst (λ row. Contains rows row) (sym same) found.1,
-        subst (λ row. keeps row ≡ true) (sym same) (first_true (keeps found.0) (is_row next found.0) found.2),
-      ),
-    λ both. by.1 (next, both.0, both_true (keeps next) (is_row next next) both.1 (row_itself next)),
-  )
+    let by = row_by (filter keeps rows) next (λ row. keeps row && is_row next row) rows
+    (any_filter (is_row next) keeps rows) in (
+      λ there. let found = by.0 there in
+          let same = row_same next found.0 (and_second (keeps found.0) (is_row next found.0) found.2) in (
+            subst (λ row. Contains rows row) (sym same) found.1,
+            subst (λ row. keeps row ≡ true) (sym same) (and_first (keeps found.0) (is_row next found.0) found.2),
+          ),
+      λ both. by.1 (next, both.0, both_true (keeps next) (is_row next next) both.1 (row_itself next)),
+    )
 
 filter_map_has : (h : Row → Option Row) (rows : List Row) (next : Row)
     → Contains (filter_map h rows) next ↔ ((row : Row) × Contains rows row × (h row ≡ Some next))
 filter_map_has h rows next =
-    let by = row_by (filter_map h rows) next (λ row. passes (is_row next) (h row)) rows (any_filter_map (is_row next) h rows) in
-    (
-    λ there. let found = by.0 there in (found.0, found.1, passes_to next (h found.0) found.2),
-    λ found. by.1 (found.0, found.1, passes_from next (h found.0) found.2),
-  )
+    let by = row_by (filter_map h rows) next (λ row. passes (is_row next) (h row)) rows
+    (any_filter_map (is_row next) h rows) in (
+      λ there. let found = by.0 there in (found.0, found.1, passes_to next (h found.0) found.2),
+      λ found. by.1 (found.0, found.1, passes_from next (h found.0) found.2),
+    )
 
 map_has : (h : Row → Row) (rows : List Row) (next : Row)
     → Contains (map h rows) next ↔ ((row : Row) × Contains rows row × (h row ≡ next))
 map_has h rows next =
-    let by = row_by (map h rows) next (λ row. is_row next (h row)) rows (any_map (is_row next) h rows) in
-    (
-    λ there. let found = by.0 there in (found.0, found.1, sym (row_same next (h found.0) found.2)),
-    λ found. by.1 (found.0, found.1, ap (is_row next) found.2 ∙ row_itself next),
-  )
+    let by = row_by (map h rows) next (λ row. is_row next (h row)) rows (any_map (is_row next) h rows) in (
+      λ there. let found = by.0 there in (found.0, found.1, sym (row_same next (h found.0) found.2)),
+      λ found. by.1 (found.0, found.1, ap (is_row next) found.2 ∙ row_itself next),
+    )
 
 -- the rows that match
 module _ (base : FactBase) (p : Pattern) (next : Row) where
@@ -150,32 +144,32 @@ module _ (base : FactBase) (p : Pattern) (next : Row) where
 
   pub matched_has : (rows : List Row) → Contains (matched base p rows) next ↔ IsMatched base p rows next
   matched_has rows =
-      let by = row_by (matched base p rows) next fits_some rows (any_matched rows) in
-      (
-      λ there. let found = by.0 there in
-          let fact = any_to (fits found.0) (matchable base) found.2 in
-          (found.0, fact.0, found.1, fact.1, passes_to next (match_fact p found.0 fact.0) fact.2),
-      λ is. by.1 (
-        is.0,
-        is.2,
-        any_from (fits is.0) (matchable base) is.1 is.3 (passes_from next (match_fact p is.0 is.1) is.4),
-      ),
-    )
+      let by = row_by (matched base p rows) next fits_some rows (any_matched rows) in (
+        λ there. let found = by.0 there in
+            let fact = any_to (fits found.0) (matchable base) found.2 in
+            (found.0, fact.0, found.1, fact.1, passes_to next (match_fact p found.0 fact.0) fact.2),
+        λ is. by.1 (
+          is.0,
+          is.2,
+          any_from (fits is.0) (matchable base) is.1 is.3 (passes_from next (match_fact p is.0 is.1) is.4),
+        ),
+      )
 
 -- the same of two lists that are one
-has_same : (rows others : List Row) (next : Row) (P : Type 0) → rows ≡ others → Contains others next ↔ P → Contains rows next ↔ P
+has_same : (rows others : List Row) (next : Row) (P : Type 0) → rows ≡ others → Contains others next ↔ P
+    → Contains rows next ↔ P
 has_same rows others next P same is = subst (λ xs. Contains xs next ↔ P) (sym same) is
 
 branch_has : (base : FactBase) (fs : List Formula) (rows : List Row) (next : Row)
     → Contains (flat_map (λ f. through base f rows) fs) next
     ↔ ((f : Formula) × Contains fs f × Contains (through base f rows) next)
 branch_has base fs rows next =
-    let by = row_by (flat_map (λ f. through base f rows) fs) next (λ f. list_any (is_row next) (through base f rows)) fs
-    (any_flat (is_row next) (λ f. through base f rows) fs) in
-    (
-    λ there. let found = by.0 there in (found.0, found.1, (row_in (through base found.0 rows) next).0 found.2),
-    λ found. by.1 (found.0, found.1, (row_in (through base found.0 rows) next).1 found.2),
-  )
+    let by = row_by (flat_map (λ f. through base f rows) fs) next
+    (λ f. list_any (is_row next) (through base f rows)) fs
+    (any_flat (is_row next) (λ f. through base f rows) fs) in (
+      λ there. let found = by.0 there in (found.0, found.1, (row_in (through base found.0 rows) next).0 found.2),
+      λ found. by.1 (found.0, found.1, (row_in (through base found.0 rows) next).1 found.2),
+    )
 
 -- no rows
 none_to : (rows : List Row) → (length rows == 0) ≡ true → rows ≡ []
@@ -228,14 +222,17 @@ module _ (base : FactBase) (rows : List Row) (next : Row) where
         (through_atom base p ts rows) (matched_has base (AtomPattern p ts) next rows);
     membership = λ o c. has_same (through base (Member o c) rows) (matched base (MemberPattern o c) rows) next _
         (through_member base o c rows) (matched_has base (MemberPattern o c) next rows);
-    empty_frame = λ o. has_same (through base (Frame o []) rows) rows next _ (through_frame base o [] rows) (λ is. is, λ is. is);
+    empty_frame = λ o. has_same (through base (Frame o []) rows) rows next _ (through_frame base o [] rows)
+        (λ is. is, λ is. is);
     frame = frame_has;
-    empty_conjunction = has_same (through base (And []) rows) rows next _ (through_and base [] rows) (λ is. is, λ is. is);
+    empty_conjunction = has_same (through base (And []) rows) rows next _ (through_and base [] rows)
+        (λ is. is, λ is. is);
     conjunction = and_has;
     disjunction = λ fs. has_same (through base (Or fs) rows) (flat_map (λ f. through base f rows) fs) next _
         (through_or base fs rows) (branch_has base fs rows next);
     negation = not_has;
-    existential = λ vs f. has_same (through base (Exists vs f) rows) (map (without_variables vs) (through base f rows)) next _
+    existential = λ vs f. has_same (through base (Exists vs f) rows)
+        (map (without_variables vs) (through base f rows)) next _
         (through_exists base vs f rows) (map_has (without_variables vs) (through base f rows) next);
     equality = λ a b. has_same (through base (Equal a b) rows) (filter_map (equal_row a b) rows) next _
         (through_equal base a b rows) (filter_map_has (equal_row a b) rows next);
@@ -256,45 +253,41 @@ either : (a b : Bool) → (a || b) ≡ true → (a ≡ true) ⊎ (b ≡ true)
 either true b is = inl refl
 either false b is = inr is
 
-or_left : (a b : Bool) → a ≡ true → (a || b) ≡ true
-or_left a b is = ap (λ c. c || b) is
-
-or_right : (a b : Bool) → b ≡ true → (a || b) ≡ true
-or_right true b is = refl
-or_right false b is = is
-
 pub is_of_both : IsOfBoth
 is_of_both base f xs ys next =
     let test = is_row next in
     let each = λ (row : Row). list_any test (through base f (row ∷ [])) in
-    let all : list_any test (through base f (xs ++ ys)) ≡ (list_any test (through base f xs) || list_any test (through base f ys)) =
+    let all : list_any test (through base f (xs ++ ys))
+    ≡ (list_any test (through base f xs) || list_any test (through base f ys)) =
     spread_through base f test (xs ++ ys) ∙ list_any-append each xs ys
     ∙ sym (ap₂ (λ a b. a || b) (spread_through base f test xs) (spread_through base f test ys)) in
     let here = row_in (through base f (xs ++ ys)) next in
     let first = row_in (through base f xs) next in
     let second = row_in (through base f ys) next in
     let left = list_any test (through base f xs) in
-    let right = list_any test (through base f ys) in
-    (
-    λ there. turn left right first.0 second.0 (either left right (sym all ∙ here.1 there)),
-    λ found. here.0 (all ∙ back left right first.1 second.1 found),
-  )
+    let right = list_any test (through base f ys) in (
+      λ there. turn left right first.0 second.0 (either left right (sym all ∙ here.1 there)),
+      λ found. here.0 (all ∙ back left right first.1 second.1 found),
+    )
   where
     turn : {A B : Type 0} (a b : Bool) → (a ≡ true → A) → (b ≡ true → B) → (a ≡ true) ⊎ (b ≡ true) → A ⊎ B
     turn a b to also (inl is) = inl (to is)
     turn a b to also (inr is) = inr (also is)
 
     back : {A B : Type 0} (a b : Bool) → (A → a ≡ true) → (B → b ≡ true) → A ⊎ B → (a || b) ≡ true
-    back a b to also (inl is) = or_left a b (to is)
-    back a b to also (inr is) = or_right a b (also is)
+    back a b to also (inl is) = or_first a b (to is)
+    back a b to also (inr is) = or_second a b (also is)
 
 -- ---- extensions are a set
 
 pub is_set_of_extensions : IsSetOfExtensions
-is_set_of_extensions base row f = (set_ordered total_bindings exact_bindings rows, λ next. (
+is_set_of_extensions base row f = (
+  set_ordered total_bindings exact_bindings rows,
+  λ next. (
     λ there. (row_in rows next).0 (sym (same next) ∙ (row_in (ordered binding_cmp rows) next).1 there),
     λ there. (row_in (ordered binding_cmp rows) next).0 (same next ∙ (row_in rows next).1 there),
-  ))
+  ),
+)
   where
     rows : List Row
     rows = through base f (row ∷ [])

@@ -1,4 +1,5 @@
 pub mod BindingLemmas
+pub mod CallerLemmas
 pub mod EqualLemmas
 pub mod FormLemmas
 pub mod MatchingLemmas

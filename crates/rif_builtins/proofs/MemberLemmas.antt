@@ -1,17 +1,16 @@
--- Which rows a formula gives, whatever the order in which it lists them: what it gives of some rows is what it gives of
--- each of them. Said of any test of rows: some row that the formula gives passes it exactly where, for one of the given
--- rows, some row passes that the formula gives of that one alone.
-use Rattle.std.proofs.Common.{◌≡◌, ◌↔◌, Bool, true, false, cond, not, ◌&&◌, ◌||◌, ◌==◌, List, [], ◌∷◌, ◌++◌, length}
-use Rattle.std.proofs.Common.{map, filter, Some, None, ap, ap₂, ◌∙◌, sym, refl, subst, arith, append-nil}
+-- Which rows a formula gives, whatever the order in which it lists them: what it gives of some rows is what it gives
+-- of each of them. Said of any test of rows: some row that the formula gives passes it exactly where, for one of the
+-- given rows, some row passes that the formula gives of that one alone.
+use Rattle.std.proofs.Common.{◌≡◌, ◌↔◌, Bool, true, false, cond, ◌&&◌, ◌||◌, ◌==◌, List, [], ◌∷◌, length}
+use Rattle.std.proofs.Common.{map, filter, Some, None, ap, ap₂, ◌∙◌, sym, refl, subst, arith}
 use Rattle.std.specs.List.{Contains, list_any, flat_map, filter_map, cons_option}
 use Rattle.std.specs.Ordering.{eq_by_cmp}
 use Rattle.std.specs.declared.option.Option.{Option}
 use Rattle.std.proofs.lemmas.List.Folds.{list_any-append, Any-from_list_any, list_any-from_Any}
-use Rattle.rif_values.specs.declared.fact.Fact.{Fact}
 use Rattle.rif_values.specs.Bindings.{Row, without_variables}
 use Rattle.rif_values.specs.Order.{binding_cmp}
-use Rattle.rif_values.proofs.OrderLemmas.{total_bindings, exact_bindings}
-use Rattle.rif_sets.proofs.SetsMembers.{has_contains, equal_is, equal_itself}
+use Rattle.rif_values.proofs.CallerLemmas.{total_bindings, exact_bindings}
+use Rattle.rif_sets.proofs.CallerLemmas.{has_contains, equal_is, equal_itself}
 use Rattle.rif_tree.specs.declared.tree.Term.{Term}
 use Rattle.rif_tree.specs.declared.tree.Formula.{Formula, map-Formula, roll-Formula}
 use Rattle.rif_tree.specs.declared.tree.Formula.TheOpen.{Formula-F, And as AndLayer, Or as OrLayer, Not as NotLayer}
@@ -56,7 +55,8 @@ pub any_filter : {X : Type 0} (test keeps : X → Bool) (xs : List X)
     → list_any test (filter keeps xs) ≡ list_any (λ x. keeps x && test x) xs
 any_filter test keeps [] = refl
 any_filter test keeps (x ∷ xs) =
-    elim (keeps x) as (λ b. list_any test (cond b (x ∷ filter keeps xs) (filter keeps xs)) ≡ ((b && test x) || list_any (λ x. keeps x && test x) xs)) [
+    elim (keeps x) as (λ b. list_any test (cond b (x ∷ filter keeps xs) (filter keeps xs))
+    ≡ ((b && test x) || list_any (λ x. keeps x && test x) xs)) [
       | true ↦ ap (λ b. test x || b) (any_filter test keeps xs)
       | false ↦ any_filter test keeps xs
     ]
@@ -128,7 +128,8 @@ spread_by step each is test rows =
 spread_same : IsSpread (λ rows. rows)
 spread_same = spread_by (λ rows. rows) (λ test. test) (λ test rows. refl)
 
-spread_then : (first later : List Row → List Row) → IsSpread first → IsSpread later → IsSpread (λ rows. later (first rows))
+spread_then : (first later : List Row → List Row) → IsSpread first → IsSpread later
+    → IsSpread (λ rows. later (first rows))
 spread_then first later is also test rows =
     also test (first rows)
     ∙ is (λ row. list_any test (later (row ∷ []))) rows
@@ -136,15 +137,18 @@ spread_then first later is also test rows =
     (λ row. list_any test (later (first (row ∷ [])))) rows (λ row. sym (also test (first (row ∷ []))))
 
 spread_filter : (keeps : Row → Bool) → IsSpread (filter keeps)
-spread_filter keeps = spread_by (filter keeps) (λ test row. keeps row && test row) (λ test rows. any_filter test keeps rows)
+spread_filter keeps = spread_by (filter keeps) (λ test row. keeps row && test row)
+    (λ test rows. any_filter test keeps rows)
 
 spread_filter_map : (h : Row → Option Row) → IsSpread (filter_map h)
-spread_filter_map h = spread_by (filter_map h) (λ test row. passes test (h row)) (λ test rows. any_filter_map test h rows)
+spread_filter_map h = spread_by (filter_map h) (λ test row. passes test (h row))
+    (λ test rows. any_filter_map test h rows)
 
 spread_map : (h : Row → Row) (step : List Row → List Row) → IsSpread step → IsSpread (λ rows. map h (step rows))
 spread_map h step is test rows =
     any_map test h (step rows) ∙ is (λ row. test (h row)) rows
-    ∙ any_same (λ row. list_any (λ next. test (h next)) (step (row ∷ []))) (λ row. list_any test (map h (step (row ∷ [])))) rows
+    ∙ any_same (λ row. list_any (λ next. test (h next)) (step (row ∷ [])))
+    (λ row. list_any test (map h (step (row ∷ [])))) rows
     (λ row. sym (any_map test h (step (row ∷ []))))
 
 pub spread_matched : (base : FactBase) (p : Pattern) → IsSpread (matched base p)
@@ -188,13 +192,15 @@ module _ (base : FactBase) where
   spread_branches (e ∷ es) test rows =
       list_any-append test (step_of e rows) (branches es rows)
       ∙ ap₂ (λ a b. a || b) (e.1 test rows) (spread_branches es test rows)
-      ∙ sym (any_or (λ row. list_any test (step_of e (row ∷ []))) (λ row. list_any test (branches es (row ∷ []))) rows)
+      ∙ sym (any_or (λ row. list_any test (step_of e (row ∷ [])))
+      (λ row. list_any test (branches es (row ∷ []))) rows)
       ∙ any_same (λ row. list_any test (step_of e (row ∷ [])) || list_any test (branches es (row ∷ [])))
       (λ row. list_any test (branches (e ∷ es) (row ∷ []))) rows
       (λ row. sym (list_any-append test (step_of e (row ∷ [])) (branches es (row ∷ []))))
 
   spread_inside : (y : Formula-F Known)
-      → IsSpread (through_step base (map-Formula Formula (List Row → List Row) (through base) (map-Formula Known Formula formula_in y)))
+      → IsSpread (through_step base (map-Formula Formula (List Row → List Row) (through base)
+      (map-Formula Known Formula formula_in y)))
   spread_inside (AndLayer es) = spread_turn es
   spread_inside (OrLayer es) = spread_branches es
   spread_inside (NotLayer e) = spread_filter (λ row. length (through base e.0 (row ∷ [])) == 0)
@@ -205,9 +211,11 @@ module _ (base : FactBase) where
   spread_inside (AtomLayer p ts) = spread_matched base (AtomPattern p ts)
   spread_inside (HoldsLayer pred ts) = spread_filter (λ row. holds_at pred (values_of row ts))
 
-  spread_layer : (y : Formula-F Known) → IsSpread (through base (roll-Formula (map-Formula Known Formula formula_in y)))
+  spread_layer : (y : Formula-F Known)
+      → IsSpread (through base (roll-Formula (map-Formula Known Formula formula_in y)))
   spread_layer y =
-      subst IsSpread (sym (fold-roll-Formula (List Row → List Row) (through_step base) (map-Formula Known Formula formula_in y)))
+      subst IsSpread (sym (fold-roll-Formula (List Row → List Row) (through_step base)
+      (map-Formula Known Formula formula_in y)))
       (spread_inside y)
 
   pub spread_through : (f : Formula) → IsSpread (through base f)
@@ -220,8 +228,8 @@ module _ (base : FactBase) where
 pub one_by_one : (step : List Row → List Row) → IsSpread step → (rows : List Row) (next : Row)
     → Contains (step rows) next ↔ ((row : Row) × Contains rows row × Contains (step (row ∷ [])) next)
 one_by_one step is rows next =
-    let by = row_by (step rows) next (λ row. list_any (is_row next) (step (row ∷ []))) rows (is (is_row next) rows) in
-    (
-    λ there. let found = by.0 there in (found.0, found.1, (row_in (step (found.0 ∷ [])) next).0 found.2),
-    λ found. by.1 (found.0, found.1, (row_in (step (found.0 ∷ [])) next).1 found.2),
-  )
+    let given = λ (row : Row). list_any (is_row next) (step (row ∷ [])) in
+    let by = row_by (step rows) next given rows (is (is_row next) rows) in (
+      λ there. let found = by.0 there in (found.0, found.1, (row_in (step (found.0 ∷ [])) next).0 found.2),
+      λ found. by.1 (found.0, found.1, (row_in (step (found.0 ∷ [])) next).1 found.2),
+    )

@@ -1,5 +1,5 @@
 -- One pattern against one fact: what a match binds, and that it is the one row that does so.
-use Rattle.std.proofs.Common.{◌≡◌, ◌↔◌, ℕ, ◌==◌, Bool, true, false, cond, ◌&&◌, ◌||◌, List, [], ◌∷◌, ◌++◌, map}
+use Rattle.std.proofs.Common.{◌≡◌, ℕ, ◌==◌, Bool, true, false, cond, ◌&&◌, ◌||◌, List, [], ◌∷◌, ◌++◌, map}
 use Rattle.std.proofs.Common.{Some, None, ap, ap₂, ◌∙◌, sym, refl, subst, arith, append_assoc}
 use Rattle.std.specs.List.{flat_map}
 use Rattle.std.specs.Option.{IfSome, option_and_then, option_map}
@@ -13,26 +13,27 @@ use Rattle.rif_values.specs.declared.fact.Fact.{Fact}
 use Rattle.rif_values.specs.declared.fact.Fact.TheVariants.{Atom, Frame, Member}
 use Rattle.rif_values.specs.Bindings.{Row, IsBinding, value_at, bound}
 use Rattle.rif_values.specs.Facts.{same_const}
-use Rattle.rif_values.proofs.OrderLemmas.{total_consts, exact_consts}
+use Rattle.rif_values.specs.Places.{places_of}
+use Rattle.rif_values.proofs.CallerLemmas.{total_consts, exact_consts}
 use Rattle.rif_tree.specs.declared.tree.Term.{Term, map-Term, roll-Term}
 use Rattle.rif_tree.specs.declared.tree.Term.TheOpen.{Term-F, Const as ConstLayer, Var as VarLayer, Call as CallLayer}
-use Rattle.rif_tree.specs.declared.tree.Term.TheFolds.{fold-Term, fold-roll-Term, ind-Term}
-use Rattle.rif_tree.specs.Laws.{AreSame, AreAmong}
+use Rattle.rif_tree.specs.declared.tree.Term.TheFolds.{fold-roll-Term, ind-Term}
+use Rattle.rif_tree.specs.Laws.{AreAmong}
 use Rattle.rif_tree.specs.Ready.{pattern_ready}
 use Rattle.rif_tree.specs.Variables.{has_variable, has_all, variable_of, variable_step, variables_of, variables_step}
 use Rattle.rif_tree.specs.Variables.{called_variables_of}
-use Rattle.rif_tree.proofs.CallerLemmas.{and_first, and_second, or_first, same_tests, has_append, has_all_elim}
+use Rattle.rif_tree.proofs.CallerLemmas.{and_first, and_second, has_all_elim}
 use Rattle.rif_tree.proofs.CallerLemmas.{has_all_more, among_front, among_back, variable_alone}
 use Rattle.rif_builtins.specs.declared.pattern.Pattern.{Pattern}
 use Rattle.rif_builtins.specs.declared.pattern.Pattern.TheVariants.{Atom as AtomPattern, Slot as SlotPattern}
 use Rattle.rif_builtins.specs.declared.pattern.Pattern.TheVariants.{Member as MemberPattern}
 use Rattle.rif_builtins.specs.Extensions.{agreeing, binding_to, match_as, match_term, match_terms, match_fact}
-use Rattle.rif_builtins.specs.ExtensionLaws.{variables_in, IsExtension, terms_of, constants_of, is_of_kind, IsMatch}
+use Rattle.rif_builtins.specs.ExtensionLaws.{variables_in, IsExtension, terms_of, is_of_kind, IsMatch}
 use Rattle.rif_builtins.specs.ExtensionLaws.{IsMatchingExact}
 use Rattle.rif_builtins.specs.Values.{value_of, value_step, values_of, all_of, call_value}
 use Rattle.rif_builtins.proofs.RowLemmas.{is_there, has_is_there, value_has, value_bound, value_bound_here, Keeps}
 use Rattle.rif_builtins.proofs.RowLemmas.{extends_itself, extends_same, extends_on, extends_bound, same_extension}
-use Rattle.rif_builtins.proofs.RowLemmas.{same_within}
+use Rattle.rif_builtins.proofs.RowLemmas.{same_within, some_same}
 
 -- ---- constants
 
@@ -61,9 +62,11 @@ unfolding or_zero
 valued_at row (ConstLayer c) v is = absurd (cc (sym (fold-roll-Term (Option ℕ) variable_step (ConstLayer c)) ∙ is))
 valued_at row (VarLayer u) v is =
     fold-roll-Term (Option Const) (value_step row) (VarLayer u)
-    ∙ ap (λ (o : Option ℕ). value_at row (or_zero o)) (sym (fold-roll-Term (Option ℕ) variable_step (VarLayer u)) ∙ is)
+    ∙ ap (λ (o : Option ℕ). value_at row (or_zero o))
+    (sym (fold-roll-Term (Option ℕ) variable_step (VarLayer u)) ∙ is)
 valued_at row (CallLayer func es) v is =
-    absurd (cc (sym (fold-roll-Term (Option ℕ) variable_step (CallLayer func (map (λ (e : ValuedTerm row). e.0) es))) ∙ is))
+    absurd (cc (sym (fold-roll-Term (Option ℕ) variable_step (CallLayer func (map (λ (e : ValuedTerm row). e.0) es)))
+    ∙ is))
 
 pub variable_value : (row : Row) (t : Term) → IsValueOfVariable row t
 variable_value row =
@@ -102,12 +105,14 @@ module _ (row next : Row) (keeps : Keeps row next) where
   kept_at (VarLayer v) among =
       let self : (v == v) ≡ true = grind (arith, nat_tests) in
       let has : has_variable (variables_of (roll-Term (VarLayer v))) v ≡ true =
-      ap (λ (us : List ℕ). has_variable us v) (fold-roll-Term (List ℕ) variables_step (VarLayer v)) ∙ ap (λ b. b || false) self in
+      ap (λ (us : List ℕ). has_variable us v) (fold-roll-Term (List ℕ) variables_step (VarLayer v))
+      ∙ ap (λ b. b || false) self in
       fold-roll-Term (Option Const) (value_step row) (VarLayer v) ∙ kept_variable v (among v has)
       ∙ sym (fold-roll-Term (Option Const) (value_step next) (VarLayer v))
   kept_at (CallLayer func es) among =
       let ts = map term_in es in
-      let all = fold-roll-Term (List ℕ) variables_step (CallLayer func ts) ∙ flat_map-map (λ (vs : List ℕ). vs) variables_of ts in
+      let all = fold-roll-Term (List ℕ) variables_step (CallLayer func ts)
+      ∙ flat_map-map (λ (vs : List ℕ). vs) variables_of ts in
       fold-roll-Term (Option Const) (value_step row) (CallLayer func ts)
       ∙ ap (λ os. call_value func (all_of os))
       (kept_each es (λ v has. among v (ap (λ (us : List ℕ). has_variable us v) all ∙ has)))
@@ -157,11 +162,10 @@ binding_gives row v c vs here = at (value_at row v) refl
         → IfSome (cond b (Some row) None) (Binds row vs v c)
     found d is false other = tt
     found d is true same =
-        let has : has_variable vs v ≡ true = sym (here.variables v) ∙ value_has row v d is in
-        (
-        extends_same row row vs (vs ++ v ∷ []) (same_within vs (v ∷ []) (ap (λ b. b && true) has)) here,
-        is ∙ ap Some (const_same d c same),
-      )
+        let has : has_variable vs v ≡ true = sym (here.variables v) ∙ value_has row v d is in (
+          extends_same row row vs (vs ++ v ∷ []) (same_within vs (v ∷ []) (ap (λ b. b && true) has)) here,
+          is ∙ ap Some (const_same d c same),
+        )
 
     at : (o : Option Const) → value_at row v ≡ o → IfSome (binding_to row v o c) (Binds row vs v c)
     at None none = (extends_bound row vs v c here none, value_bound_here row v c none)
@@ -188,7 +192,8 @@ pattern_more vs us [] ready = refl
 pattern_more vs us (t ∷ ts) ready =
     let one = has_all vs (called_variables_of t) in
     ap₂ (λ a b. a && b)
-    (has_all_more vs (vs ++ us) (called_variables_of t) (among_front vs us) (and_first one (pattern_ready vs ts) ready))
+    (has_all_more vs (vs ++ us) (called_variables_of t) (among_front vs us)
+    (and_first one (pattern_ready vs ts) ready))
     (pattern_more vs us ts (and_second one (pattern_ready vs ts) ready))
 
 abbrev pub GivesAll : Row → List ℕ → List Term → List Const → Row → Type 0
@@ -201,12 +206,11 @@ given_together : (t : Term) (ts : List Term) (row mid next : Row) (c : Const) (c
 given_together t ts row mid next c cs vs ws first later =
     let us = variables_of t in
     let among : AreAmong us (variables_in mid) = λ v has. first.0.variables v ∙ among_back vs us v has in
-    let value : value_of next t ≡ Some c = sym (kept_value mid next later.0.values t among) ∙ first.1 in
-    (
-    subst (λ (xs : List ℕ). IsExtension row xs next) (append_assoc vs us ws)
-        (extends_on row mid next (vs ++ us) ((vs ++ us) ++ ws) first.0 later.0),
-    ap (λ o. all_of (o ∷ map (value_of next) ts)) value ∙ ap (option_map (λ xs. c ∷ xs)) later.1,
-  )
+    let value : value_of next t ≡ Some c = sym (kept_value mid next later.0.values t among) ∙ first.1 in (
+      subst (λ (xs : List ℕ). IsExtension row xs next) (append_assoc vs us ws)
+          (extends_on row mid next (vs ++ us) ((vs ++ us) ++ ws) first.0 later.0),
+      ap (λ o. all_of (o ∷ map (value_of next) ts)) value ∙ ap (option_map (λ xs. c ∷ xs)) later.1,
+    )
 
 pub terms_give : (ts : List Term) (row : Row) (cs : List Const) (vs : List ℕ) → IsExtension row vs row
     → pattern_ready vs ts ≡ true
@@ -232,7 +236,8 @@ terms_give (t ∷ ts) row (c ∷ cs) vs here ready =
 abbrev Found : Option Row → Row → Type 0
 Found o next = (mid : Row) × (o ≡ Some mid) × Keeps mid next
 
-keeps_bound_to : (row next : Row) (v : ℕ) (c : Const) → value_at row v ≡ None → Keeps row next → value_at next v ≡ Some c
+keeps_bound_to : (row next : Row) (v : ℕ) (c : Const) → value_at row v ≡ None → Keeps row next
+    → value_at next v ≡ Some c
     → Keeps (bound row v c) next
 keeps_bound_to row next v c none keeps here u d is = at (v == u) refl
   where
@@ -244,14 +249,6 @@ keeps_bound_to row next v c none keeps here u d is = at (v == u) refl
     at false one =
         keeps u d (sym (ap (λ b. cond b (Some c) (value_at row u)) one) ∙ sym (value_bound row v c u none) ∙ is)
 
-or_const : Const → Option Const → Const
-or_const c None = c
-or_const c (Some d) = d
-
-pub some_const : (c d : Const) → Some c ≡ Some d → c ≡ d
-unfolding or_const
-some_const c d same = ap (or_const c) same
-
 found_bound : (row next : Row) (v : ℕ) (c : Const) → Keeps row next → value_at next v ≡ Some c
     → Found (binding_to row v (value_at row v) c) next
 found_bound row next v c keeps here = at (value_at row v) refl
@@ -259,7 +256,7 @@ found_bound row next v c keeps here = at (value_at row v) refl
     at : (o : Option Const) → value_at row v ≡ o → Found (binding_to row v o c) next
     at None none = (bound row v c, refl, keeps_bound_to row next v c none keeps here)
     at (Some d) is =
-        let same : d ≡ c = some_const d c (sym (keeps v d is) ∙ here) in
+        let same : d ≡ c = some_same d c (sym (keeps v d is) ∙ here) in
         (row, ap (λ b. cond b (Some row) None) (ap (λ x. same_const x c) same ∙ const_itself c), keeps)
 
 pub found_term : (t : Term) (row next : Row) (c : Const) (vs : List ℕ) → IsExtension row vs row → Keeps row next
@@ -270,13 +267,12 @@ found_term t row next c vs here keeps ready is = at (variable_of t) refl ready
         → Found (match_as o row t c) next
     at None e inner =
         let among : AreAmong (variables_of t) (variables_in row) =
-        λ v has. here.variables v ∙ has_all_elim vs (variables_of t) inner v has in
-        (
-        row,
-        ap (λ o. agreeing row o c) (kept_value row next keeps t among ∙ is)
-            ∙ ap (λ b. cond b (Some row) None) (const_itself c),
-        keeps,
-      )
+        λ v has. here.variables v ∙ has_all_elim vs (variables_of t) inner v has in (
+          row,
+          ap (λ o. agreeing row o c) (kept_value row next keeps t among ∙ is)
+              ∙ ap (λ b. cond b (Some row) None) (const_itself c),
+          keeps,
+        )
     at (Some v) e inner = found_bound row next v c keeps (sym (variable_value next t v e) ∙ is)
 
 -- the values of a first term and of those behind it
@@ -285,7 +281,8 @@ first_value : (o : Option Const) (os : List (Option Const)) (c : Const) (cs : Li
 first_value None os c cs is = absurd (cc is)
 first_value (Some d) os c cs is = at (all_of os) is
   where
-    at : (rest : Option (List Const)) → option_map (λ xs. d ∷ xs) rest ≡ Some (c ∷ cs) → (Some d ≡ Some c) × (rest ≡ Some cs)
+    at : (rest : Option (List Const)) → option_map (λ xs. d ∷ xs) rest ≡ Some (c ∷ cs)
+        → (Some d ≡ Some c) × (rest ≡ Some cs)
     at None same = absurd (cc same)
     at (Some xs) same = (cc same, cc same)
 
@@ -301,7 +298,8 @@ pub found_terms : (ts : List Term) (row next : Row) (cs : List Const) (vs : List
     → Keeps row next → pattern_ready vs ts ≡ true → values_of next ts ≡ Some cs → Found (match_terms ts row cs) next
 found_terms [] row next [] vs here keeps ready is = (row, refl, keeps)
 found_terms [] row next (c ∷ cs) vs here keeps ready is = absurd (cc is)
-found_terms (t ∷ ts) row next [] vs here keeps ready is = absurd (no_value (value_of next t) (map (value_of next) ts) is)
+found_terms (t ∷ ts) row next [] vs here keeps ready is =
+    absurd (no_value (value_of next t) (map (value_of next) ts) is)
 found_terms (t ∷ ts) row next (c ∷ cs) vs here keeps ready is =
     let us = variables_of t in
     let one = has_all vs (called_variables_of t) in
@@ -317,7 +315,7 @@ found_terms (t ∷ ts) row next (c ∷ cs) vs here keeps ready is =
 -- ---- a pattern and a fact
 
 pub match_fact_is : (p : Pattern) (row : Row) (f : Fact)
-    → match_fact p row f ≡ cond (is_of_kind p f) (match_terms (terms_of p) row (constants_of f)) None
+    → match_fact p row f ≡ cond (is_of_kind p f) (match_terms (terms_of p) row (places_of f)) None
 match_fact_is (AtomPattern p ts) row (Atom q cs) = refl
 match_fact_is (AtomPattern p ts) row (Frame o s v) = refl
 match_fact_is (AtomPattern p ts) row (Member o c) = refl
@@ -338,25 +336,25 @@ fact_gives p row f vs here ready =
     goal : Row → Type 0
     goal = IsExtension row (vs ++ flat_map variables_of (terms_of p))
 
-    at : (b : Bool) → IfSome (cond b (match_terms (terms_of p) row (constants_of f)) None) goal
+    at : (b : Bool) → IfSome (cond b (match_terms (terms_of p) row (places_of f)) None) goal
     at false = tt
     at true =
-        if_some (GivesAll row (vs ++ flat_map variables_of (terms_of p)) (terms_of p) (constants_of f)) goal
-        (match_terms (terms_of p) row (constants_of f)) (λ next gives. gives.0)
-        (terms_give (terms_of p) row (constants_of f) vs here ready)
+        if_some (GivesAll row (vs ++ flat_map variables_of (terms_of p)) (terms_of p) (places_of f)) goal
+        (match_terms (terms_of p) row (places_of f)) (λ next gives. gives.0)
+        (terms_give (terms_of p) row (places_of f) vs here ready)
 
 match_is : (p : Pattern) (row : Row) (f : Fact) (next : Row) → IsBinding row
     → pattern_ready (variables_in row) (terms_of p) ≡ true → match_fact p row f ≡ Some next → IsMatch p row f next
 match_is p row f next in_order ready is = at (is_of_kind p f) refl (sym (match_fact_is p row f) ∙ is)
   where
-    at : (b : Bool) → is_of_kind p f ≡ b → cond b (match_terms (terms_of p) row (constants_of f)) None ≡ Some next
+    at : (b : Bool) → is_of_kind p f ≡ b → cond b (match_terms (terms_of p) row (places_of f)) None ≡ Some next
         → IsMatch p row f next
     at false kind found = absurd (cc found)
     at true kind found =
         let vs = variables_in row in
         let ws = flat_map variables_of (terms_of p) in
-        let gives = subst (λ o. IfSome o (GivesAll row (vs ++ ws) (terms_of p) (constants_of f))) found
-        (terms_give (terms_of p) row (constants_of f) vs (extends_itself row vs in_order (λ v. refl)) ready) in
+        let gives = subst (λ o. IfSome o (GivesAll row (vs ++ ws) (terms_of p) (places_of f))) found
+        (terms_give (terms_of p) row (places_of f) vs (extends_itself row vs in_order (λ v. refl)) ready) in
         record { kind = kind; extends = gives.0; values = gives.1 }
 
 match_found : (p : Pattern) (row : Row) (f : Fact) (next : Row) → IsBinding row
@@ -365,11 +363,12 @@ match_found p row f next in_order ready is =
     let vs = variables_in row in
     let ws = flat_map variables_of (terms_of p) in
     let here = extends_itself row vs in_order (λ v. refl) in
-    let found = found_terms (terms_of p) row next (constants_of f) vs here is.extends.values ready is.values in
-    let gives = subst (λ o. IfSome o (GivesAll row (vs ++ ws) (terms_of p) (constants_of f))) found.1
-    (terms_give (terms_of p) row (constants_of f) vs here ready) in
-    match_fact_is p row f ∙ ap (λ b. cond b (match_terms (terms_of p) row (constants_of f)) None) is.kind ∙ found.1
+    let found = found_terms (terms_of p) row next (places_of f) vs here is.extends.values ready is.values in
+    let gives = subst (λ o. IfSome o (GivesAll row (vs ++ ws) (terms_of p) (places_of f))) found.1
+    (terms_give (terms_of p) row (places_of f) vs here ready) in
+    match_fact_is p row f ∙ ap (λ b. cond b (match_terms (terms_of p) row (places_of f)) None) is.kind ∙ found.1
     ∙ ap Some (same_extension row found.0 next (vs ++ ws) gives.0 is.extends found.2)
 
 pub matching_exact : IsMatchingExact
-matching_exact p row f next in_order ready = (match_is p row f next in_order ready, match_found p row f next in_order ready)
+matching_exact p row f next in_order ready =
+    (match_is p row f next in_order ready, match_found p row f next in_order ready)

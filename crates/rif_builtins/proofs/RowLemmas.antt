@@ -40,11 +40,12 @@ has_bound : (row : Row) (v : ℕ) (c : Const) (u : ℕ)
     → has_variable (variables_in (bound row v c)) u ≡ (has_variable (variables_in row) u || (v == u))
 has_bound [] v c u = swapped (v == u) false
 has_bound (p ∷ ps) v c u =
-    elim (nat_lt v p.0) as (λ b. has_variable (variables_in (cond b ((v, c) ∷ p ∷ ps) (p ∷ bound ps v c))) u ≡ (has_variable (variables_in (p ∷ ps)) u || (v == u))) [
+    elim (nat_lt v p.0) as (λ b. has_variable (variables_in (cond b ((v, c) ∷ p ∷ ps) (p ∷ bound ps v c))) u
+    ≡ (has_variable (variables_in (p ∷ ps)) u || (v == u))) [
       | true ↦ swapped (v == u) (has_variable (variables_in (p ∷ ps)) u)
       | false ↦
-        ap (λ b. (p.0 == u) || b) (has_bound ps v c u)
-        ∙ turned (p.0 == u) (has_variable (variables_in ps) u) (v == u)
+          ap (λ b. (p.0 == u) || b) (has_bound ps v c u)
+          ∙ turned (p.0 == u) (has_variable (variables_in ps) u) (v == u)
     ]
 
 bound_later : (p : ℕ × Const) (ps : Row) (v : ℕ) (c : Const) (u : ℕ) (here is_it : Bool) → (p.0 == u) ≡ here
@@ -58,7 +59,8 @@ bound_later p ps v c u true true here is_it none rest =
 bound_later p ps v c u true false here is_it none rest = refl
 bound_later p ps v c u false is_it' here is_it none rest = at (p.0 == v) none
   where
-    at : (b : Bool) → cond b (Some p.1) (value_at ps v) ≡ None → value_at (bound ps v c) u ≡ cond is_it' (Some c) (value_at ps u)
+    at : (b : Bool) → cond b (Some p.1) (value_at ps v) ≡ None
+        → value_at (bound ps v c) u ≡ cond is_it' (Some c) (value_at ps u)
     at true some = absurd (cc some)
     at false one = rest one
 
@@ -66,7 +68,8 @@ pub value_bound : (row : Row) (v : ℕ) (c : Const) (u : ℕ) → value_at row v
     → value_at (bound row v c) u ≡ cond (v == u) (Some c) (value_at row u)
 value_bound [] v c u none = refl
 value_bound (p ∷ ps) v c u none =
-    elim (nat_lt v p.0) as (λ b. value_at (cond b ((v, c) ∷ p ∷ ps) (p ∷ bound ps v c)) u ≡ cond (v == u) (Some c) (value_at (p ∷ ps) u)) [
+    elim (nat_lt v p.0) as (λ b. value_at (cond b ((v, c) ∷ p ∷ ps) (p ∷ bound ps v c)) u
+    ≡ cond (v == u) (Some c) (value_at (p ∷ ps) u)) [
       | true ↦ refl
       | false ↦ bound_later p ps v c u (p.0 == u) (v == u) refl refl none (λ one. value_bound ps v c u one)
     ]
@@ -98,10 +101,12 @@ keeps_bound row v c none u d is = at (v == u) refl
         let same : v ≡ u = grind (arith, nat_tests) in absurd (cc (sym none ∙ ap (value_at row) same ∙ is))
     at false one = value_bound row v c u none ∙ ap (λ b. cond b (Some c) (value_at row u)) one ∙ is
 
-pub extends_itself : (row : Row) (vs : List ℕ) → IsBinding row → AreSame (variables_in row) vs → IsExtension row vs row
+pub extends_itself : (row : Row) (vs : List ℕ) → IsBinding row → AreSame (variables_in row) vs
+    → IsExtension row vs row
 extends_itself row vs in_order same = record { in_order = in_order; values = λ v c is. is; variables = same }
 
-pub extends_same : (row next : Row) (us vs : List ℕ) → AreSame us vs → IsExtension row us next → IsExtension row vs next
+pub extends_same : (row next : Row) (us vs : List ℕ) → AreSame us vs → IsExtension row us next
+    → IsExtension row vs next
 extends_same row next us vs same e =
     record { in_order = e.in_order; values = e.values; variables = λ v. e.variables v ∙ same v }
 
@@ -124,10 +129,13 @@ extends_bound row vs v c here none = record {
 
 -- ---- without some variables
 
-variables_without : (vs : List ℕ) (row : Row) → variables_in (without_variables vs row) ≡ without vs (variables_in row)
+variables_without : (vs : List ℕ) (row : Row)
+    → variables_in (without_variables vs row) ≡ without vs (variables_in row)
 variables_without vs [] = refl
 variables_without vs (p ∷ ps) =
-    elim (has_variable vs p.0) as (λ b. variables_in (cond (not b) (p ∷ without_variables vs ps) (without_variables vs ps)) ≡ cond (not b) (p.0 ∷ without vs (variables_in ps)) (without vs (variables_in ps))) [
+    elim (has_variable vs p.0) as (λ b. variables_in
+    (cond (not b) (p ∷ without_variables vs ps) (without_variables vs ps))
+    ≡ cond (not b) (p.0 ∷ without vs (variables_in ps)) (without vs (variables_in ps))) [
       | true ↦ variables_without vs ps
       | false ↦ ap (λ (xs : List ℕ). p.0 ∷ xs) (variables_without vs ps)
     ]
@@ -159,7 +167,8 @@ pub extends_without : (start row : Row) (us ws vs : List ℕ) → AreAmong (vari
 extends_without start row us ws vs within apart e = record {
   in_order = binding_filter _ row e.in_order;
   values = λ v c is. value_without vs row v (apart v (within v (value_has start v c is))) ∙ e.values v c is;
-  variables = λ v. ap (λ (xs : List ℕ). has_variable xs v) (variables_without vs row) ∙ has_without vs (variables_in row) v
+  variables = λ v. ap (λ (xs : List ℕ). has_variable xs v) (variables_without vs row)
+      ∙ has_without vs (variables_in row) v
       ∙ ap (λ b. b && not (has_variable vs v)) (e.variables v ∙ has_append us ws v)
       ∙ kept (has_variable us v) (has_variable ws v) (has_variable vs v) (out v)
       ∙ ap (λ b. has_variable us v || b) (sym (has_without vs ws v)) ∙ sym (has_append us (without vs ws) v);
@@ -205,7 +214,7 @@ or_first_value : Const → Option Const → Const
 or_first_value c None = c
 or_first_value c (Some d) = d
 
-some_same : (c d : Const) → Some c ≡ Some d → c ≡ d
+pub some_same : (c d : Const) → Some c ≡ Some d → c ≡ d
 unfolding or_first_value
 some_same c d same = ap (or_first_value c) same
 
@@ -222,7 +231,8 @@ same_rest p ps q qs rises others first same v = at (p.0 == v) refl
         let other : (q.0 == v) ≡ false = subst (λ w. (w == v) ≡ false) first is in
         sym (value_later p ps v is) ∙ same v ∙ value_later q qs v other
 
-same_first : (p : ℕ × Const) (ps : Row) (q : ℕ × Const) (qs : Row) → p.0 ≡ q.0 → value_at (p ∷ ps) p.0 ≡ value_at (q ∷ qs) p.0
+same_first : (p : ℕ × Const) (ps : Row) (q : ℕ × Const) (qs : Row) → p.0 ≡ q.0
+    → value_at (p ∷ ps) p.0 ≡ value_at (q ∷ qs) p.0
     → ps ≡ qs → p ∷ ps ≡ q ∷ qs
 same_first p ps q qs first same rest =
     let value : p.1 ≡ q.1 =

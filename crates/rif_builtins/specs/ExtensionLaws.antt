@@ -1,23 +1,25 @@
 -- What the words of extensions promise: the statements of the laws in src/laws.rt.
---     variables_in row            the variables of a row
---     IsExtension row vs next     next has the values of the row, and values for exactly the variables vs
---     terms_of p                  the terms of a pattern, from left to right
---     constants_of f              the constants of a fact that stand against them
---     is_of_kind p f              whether a pattern and a fact are of one kind, and of one predicate where they are atoms
---     IsMatch p row f next        next extends the row by exactly the pattern's variables, and under it the pattern's terms
---                                 have the fact's constants as values
---     IsEquating a b row next     next extends the row by exactly the variables of a and b, and under it both have one value
---     IsMatched base p rows next  one of the rows and one of the base's facts match to next
---     IsFormByForm base rows next what it takes, form by form, that a formula takes some of the rows to next
+--     variables_in row             the variables of a row
+--     IsExtension row vs next      next has the values of the row, and values for exactly the variables vs
+--     terms_of p                   the terms of a pattern, from left to right, which stand against a fact's places
+--     is_of_kind p f               whether both are of one kind, and of one predicate if they are atoms
+--     IsMatch p row f next         next extends the row by exactly the pattern's variables, and under it the terms of
+--                                  the pattern have the fact's constants as values
+--     IsEquating a b row next      next extends the row by exactly the variables of a and b, and under it both have
+--                                  one value
+--     IsMatched base p rows next   one of the rows and one of the base's facts match to next
+--     IsFormByForm base rows next  what it takes, form by form, that a formula takes some of the rows to next
 -- Source: RIF-PRD, "Matching substitution" and "Condition satisfaction".
 use Rattle.std.specs.Prelude.{◌≡◌, ◌↔◌, ◌⊎◌, ℕ, Bool, true, false, List, [], ◌∷◌, ◌++◌, map, Some}
 use Rattle.std.specs.List.{All, Contains, flat_map}
 use Rattle.rif_values.specs.declared.constant.Const.{Const}
 use Rattle.rif_values.specs.declared.fact.Fact.{Fact}
-use Rattle.rif_values.specs.declared.fact.Fact.TheVariants.{Atom as AtomFact, Frame as FrameFact, Member as MemberFact}
+use Rattle.rif_values.specs.declared.fact.Fact.TheVariants.{Atom as AtomFact, Frame as FrameFact}
+use Rattle.rif_values.specs.declared.fact.Fact.TheVariants.{Member as MemberFact}
 use Rattle.rif_values.specs.Bindings.{Row, IsBinding, value_at, without_variables}
 use Rattle.rif_values.specs.Facts.{same_const}
 use Rattle.rif_values.specs.Order.{binding_cmp}
+use Rattle.rif_values.specs.Places.{places_of}
 use Rattle.rif_values.specs.Sets.{IsSet}
 use Rattle.rif_tree.specs.declared.builtin.Pred.{Pred}
 use Rattle.rif_tree.specs.declared.tree.Term.{Term}
@@ -30,7 +32,7 @@ use Rattle.rif_tree.specs.Variables.{has_all, variables_of, free_of}
 use Rattle.rif_builtins.specs.declared.pattern.Pattern.{Pattern}
 use Rattle.rif_builtins.specs.declared.pattern.Pattern.TheVariants.{Atom as AtomPattern, Slot as SlotPattern}
 use Rattle.rif_builtins.specs.declared.pattern.Pattern.TheVariants.{Member as MemberPattern}
-use Rattle.rif_builtins.specs.Extensions.{FactBase, matchable, match_fact, matched, equal_row, holds_at}
+use Rattle.rif_builtins.specs.Extensions.{FactBase, matchable, match_fact, equal_row, holds_at}
 use Rattle.rif_builtins.specs.Extensions.{through, extensions_of}
 use Rattle.rif_builtins.specs.Values.{value_of, values_of}
 
@@ -60,11 +62,6 @@ terms_of (AtomPattern p ts) = ts
 terms_of (SlotPattern o s v) = o ∷ s ∷ v ∷ []
 terms_of (MemberPattern o c) = o ∷ c ∷ []
 
-abbrev pub constants_of : Fact → List Const
-constants_of (AtomFact q cs) = cs
-constants_of (FrameFact p t w) = p ∷ t ∷ w ∷ []
-constants_of (MemberFact p d) = p ∷ d ∷ []
-
 abbrev pub is_of_kind : Pattern → Fact → Bool
 is_of_kind (AtomPattern p ts) (AtomFact q cs) = same_const p q
 is_of_kind (AtomPattern p ts) (FrameFact o s v) = false
@@ -79,9 +76,9 @@ is_of_kind (MemberPattern o c) (MemberFact p d) = true
 pub record IsMatch (pattern : Pattern) (row : Row) (fact : Fact) (next : Row) : Type 0 where
   pub kind : is_of_kind pattern fact ≡ true
   pub extends : IsExtension row (variables_in row ++ flat_map variables_of (terms_of pattern)) next
-  pub values : values_of next (terms_of pattern) ≡ Some (constants_of fact)
+  pub values : values_of next (terms_of pattern) ≡ Some (places_of fact)
 
--- a pattern that is ready matches a fact to a row exactly where the row is the match of both, so that there is one at most
+-- a pattern that is ready matches a fact to a row exactly where the row is the match of both, so there is one at most
 abbrev pub IsMatchingExact : Type 0
 IsMatchingExact = (pattern : Pattern) (row : Row) (fact : Fact) (next : Row)
     → IsBinding row → pattern_ready (variables_in row) (terms_of pattern) ≡ true
@@ -93,8 +90,8 @@ pub record IsEquating (a b : Term) (row next : Row) : Type 0 where
   pub extends : IsExtension row (variables_in row ++ (variables_of a ++ variables_of b)) next
   pub value : (c : Const) × (value_of next a ≡ Some c) × (value_of next b ≡ Some c)
 
--- an equality that is ready takes a row to the one row that extends it by exactly the variables of both sides and under
--- which both have the same value, where there is one
+-- an equality that is ready takes a row to the one row that extends it by exactly the variables of both sides and
+-- under which both have the same value, where there is one
 abbrev pub IsEqualityExact : Type 0
 IsEqualityExact = (a b : Term) (row next : Row) → IsBinding row → equal_ready (variables_in row) a b ≡ true
     → (equal_row a b row ≡ Some next) ↔ IsEquating a b row next

@@ -23,7 +23,8 @@ abbrev pub call_value : Func → Option (List Const) → Option Const
 call_value func None = None
 call_value func (Some arguments) = func_value func arguments
 
--- a constant is its own value, a variable has that of the row, and a call that of its function at its arguments' values
+-- a constant is its own value, a variable has that of the row, and a call that of its function at its arguments'
+-- values
 abbrev pub value_step : Row → Term-F (Option Const) → Option Const
 value_step row (ConstLayer c) = Some c
 value_step row (VarLayer v) = value_at row v
