@@ -48,7 +48,8 @@ unfolding IsStrictlySortedBy
 set_of_rows n [] s = tt
 set_of_rows n (row ∷ rows) s = (below_of_row n row rows s.0, set_of_rows n rows s.1)
 
-rule_is : (n m : ℕ) (rows : List Row) → n ≤ m → AllByRecursion (λ (z : Instance). n ≤ z.rule) (map (instance_of m) rows)
+rule_is : (n m : ℕ) (rows : List Row) → n ≤ m → AllByRecursion (λ (z : Instance). n ≤ z.rule)
+    (map (instance_of m) rows)
 rule_is n m [] up = tt
 rule_is n m (row ∷ rows) up = (up, rule_is n m rows up)
 
@@ -57,7 +58,8 @@ from_number : (n m : ℕ) (rules : List Rule) (base : FactBase) → n ≤ m
     → AllByRecursion (λ (z : Instance). n ≤ z.rule) (instances_from m rules base)
 from_number n m [] base up = tt
 from_number n m (rule ∷ rules) base up =
-    all_append (λ (z : Instance). n ≤ z.rule) (map (instance_of m) (rows_of base rule)) (instances_from (suc m) rules base)
+    all_append (λ (z : Instance). n ≤ z.rule) (map (instance_of m) (rows_of base rule))
+    (instances_from (suc m) rules base)
     (rule_is n m (rows_of base rule) up) (from_number n (suc m) rules base (omega arith))
 
 below_later : (n : ℕ) (row : Row) (zs : List Instance) → AllByRecursion (λ (z : Instance). suc n ≤ z.rule) zs
@@ -68,7 +70,8 @@ below_later n row (z ∷ zs) later = (
   below_later n row zs later.1,
 )
 
-rows_below_later : (n : ℕ) (rows : List Row) (zs : List Instance) → AllByRecursion (λ (z : Instance). suc n ≤ z.rule) zs
+rows_below_later : (n : ℕ) (rows : List Row) (zs : List Instance)
+    → AllByRecursion (λ (z : Instance). suc n ≤ z.rule) zs
     → AllByRecursion (λ x. AllByRecursion (λ z. instance_cmp x z ≡ Less) zs) (map (instance_of n) rows)
 rows_below_later n [] zs later = tt
 rows_below_later n (row ∷ rows) zs later = (below_later n row zs later, rows_below_later n rows zs later)

@@ -1,6 +1,6 @@
 -- How conflict sets are listed: rows through a rule's levels, and instances rule by rule.
-use Rattle.std.proofs.Common.{◌≡◌, ◌∙◌, ℕ, suc, ◌+◌, ◌<◌, List, [], ◌∷◌, ◌++◌, length, drop, get_or, map, refl, ap, sym}
-use Rattle.std.proofs.Common.{append_assoc, add-one, drop-cons, subst, IfOk, Result}
+use Rattle.std.proofs.Common.{◌≡◌, ◌∙◌, ℕ, suc, ◌+◌, ◌<◌, List, [], ◌∷◌, ◌++◌, length, drop, get_or, map}
+use Rattle.std.proofs.Common.{refl, ap, sym, append_assoc, add-one, drop-cons, subst, IfOk, Result}
 use Rattle.std.specs.declared.cmp.Ordering.{Ordering}
 use Rattle.std.specs.List.{flat_map}
 use Rattle.std.proofs.lemmas.List.{map-append}
@@ -22,7 +22,8 @@ in_turn_append (s ∷ ss) ts rows = in_turn_append ss ts (s rows)
 -- rows are taken through two lists by taking them through the one and then through the other
 pub in_turn_both : {X : Type 0} (t : X → List Row → List Row) (xs ys : List X) (rows : List Row)
     → in_turn (map t (xs ++ ys)) rows ≡ in_turn (map t ys) (in_turn (map t xs) rows)
-in_turn_both t xs ys rows = ap (λ ss. in_turn ss rows) (map-append t xs ys) ∙ in_turn_append (map t xs) (map t ys) rows
+in_turn_both t xs ys rows = ap (λ ss. in_turn ss rows) (map-append t xs ys)
+    ∙ in_turn_append (map t xs) (map t ys) rows
 
 -- an element, and those after it
 pub drop_item : {X : Type 0} (xs : List X) (i : ℕ) (x : X) → i < length xs → x ≡ get_or xs i x

@@ -1,6 +1,6 @@
 use Rattle.std.proofs.Common.{length, ◌==◌, [], ◌∷◌}
 use Rattle.rif_builtins.specs.Extensions.{base_of, through}
-use Rattle.rif_match.proofs.ThroughLemmas.{through_or}
+use Rattle.rif_builtins.proofs.CallerLemmas.{through_or}
 use Rattle.rif_values.proofs.CallerLemmas.{kept_step}
 use Rattle.rif_match.proofs.extending.+through.Goals as goal
 

@@ -12,6 +12,7 @@ loop-level-preserved c =
     let later = map step (flat_map inner (drop (c.loop-level.level-index + 1) c.args.levels.now)) in
     ap (in_turn later) (c.in_ok-found.ensures
     ∙ ap (λ formulas. in_turn (map step formulas) c.loop-level.found.items) c.as_slice.ensures)
-    ∙ sym (level_step step inner c.args.levels.now c.loop-level.level-index c.level-item.result c.loop-level.found.items
+    ∙ sym (level_step step inner c.args.levels.now c.loop-level.level-index c.level-item.result
+    c.loop-level.found.items
     c.loop-level-test.true c.level-item.is)
     ∙ c.loop-level.invariant
