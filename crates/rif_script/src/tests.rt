@@ -1,5 +1,6 @@
 //! Jobs with what they are read as, small runs with their whole text, and how scripts are cut.
 mod checks;
+mod ends;
 mod job_limits;
 mod outcomes;
 mod refused_jobs;
