@@ -6,8 +6,8 @@ use crate::check::check_text;
 use crate::command::Command;
 use crate::job::run_text;
 use crate::status::Status;
-use rif_script::write_refusal;
 use rif_refusals::{Fault, Refusal};
+use rif_script::write_refusal;
 use rif_values::OutOfMemory;
 use std::alloc::Global;
 

@@ -3,8 +3,8 @@ ghost use Rattle.rif_script.specs.Jobs.{RefusesJob};
 ghost use Rattle.rif_run.specs.Answer.{IsCheckText};
 
 use prd_reader::write_doc;
-use rif_script::read_job;
 use rif_refusals::Fault;
+use rif_script::read_job;
 use std::alloc::Global;
 
 /// The canonical text of the document of the job that the bytes are, or why there is none. The cost is
