@@ -8,8 +8,8 @@ use Rattle.std.specs.List.{AllByRecursion, list_any}
 use Rattle.std.specs.declared.cmp.Ordering.{Ordering}
 use Rattle.std.specs.declared.cmp.Ordering.TheVariants.{Less, Equal, Greater}
 use Rattle.std.specs.Ordering.{eq_by_cmp, int_cmp, is_lt}
-use Rattle.rif_values.proofs.OrderLemmas.{total_instances, exact_instances}
-use Rattle.rif_sets.proofs.SetsMembers.{has_filter, equal_is, equal_itself}
+use Rattle.rif_values.proofs.CallerLemmas.{total_instances, exact_instances}
+use Rattle.rif_sets.proofs.CallerLemmas.{has_filter, equal_is, equal_itself}
 use Rattle.rif_values.specs.declared.instance.Instance.{Instance}
 use Rattle.rif_values.specs.InstanceOrder.{instance_cmp}
 use Rattle.rif_values.specs.Sets.{has}

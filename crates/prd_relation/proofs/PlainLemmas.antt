@@ -5,8 +5,8 @@ use Rattle.std.proofs.Common.{subst, add-one, arith}
 use Rattle.std.specs.Ordering.{eq_by_cmp}
 use Rattle.std.specs.declared.option.Option.{Option}
 use Rattle.std.proofs.lemmas.List.{reverse-append}
-use Rattle.rif_values.proofs.OrderLemmas.{total_instances, exact_instances}
-use Rattle.rif_sets.proofs.SetsMembers.{equal_is, equal_itself}
+use Rattle.rif_values.proofs.CallerLemmas.{total_instances, exact_instances}
+use Rattle.rif_sets.proofs.CallerLemmas.{equal_is, equal_itself}
 use Rattle.rif_values.specs.declared.instance.Instance.{Instance}
 use Rattle.rif_values.specs.InstanceOrder.{instance_cmp}
 use Rattle.rif_values.specs.Sets.{has}

@@ -29,8 +29,8 @@ use Rattle.session_states.specs.declared.turn.Turn.{Turn}
 use Rattle.session_states.specs.Machine.{state_after}
 use Rattle.prd_relation.specs.History.{Snapshot, first_history, newest_facts, moments_of}
 use Rattle.prd_relation.specs.Choice.{rule_of, chosen_instance}
-use Rattle.rif_actions.specs.declared.block.Block.{Block}
-use Rattle.rif_actions.specs.declared.block.Block.TheVariants.{Void as VoidBlock, Changes}
+use Rattle.rif_actions.specs.declared.changes.Block.{Block}
+use Rattle.rif_actions.specs.declared.changes.Block.TheVariants.{Void as VoidBlock, Changes}
 use Rattle.rif_actions.specs.Blocks.{block_of}
 
 pub record Session : Type 0 where

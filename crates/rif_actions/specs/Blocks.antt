@@ -27,8 +27,8 @@ use Rattle.rif_tree.specs.declared.rule.Decl.{Decl}
 use Rattle.rif_tree.specs.declared.rule.Decl.TheVariants.{Slot, New}
 use Rattle.rif_tree.specs.declared.rule.Rule.{Rule}
 use Rattle.rif_values.specs.Facts.{same_const}
-use Rattle.rif_actions.specs.declared.block.Block.{Block}
-use Rattle.rif_actions.specs.declared.block.Block.TheVariants.{Void, Changes}
+use Rattle.rif_actions.specs.declared.changes.Block.{Block}
+use Rattle.rif_actions.specs.declared.changes.Block.TheVariants.{Void, Changes}
 use Rattle.rif_actions.specs.declared.scope.Scope.{Scope}
 use Rattle.rif_builtins.specs.Values.{all_of, value_of, values_of}
 use Rattle.rif_values.specs.Bindings.{Row, bound}

@@ -14,8 +14,8 @@ use Rattle.rif_values.specs.declared.change.Change.{Change}
 use Rattle.rif_values.specs.declared.change.Change.TheVariants.{Assert as AssertChange, Retract as RetractChange}
 use Rattle.rif_values.specs.declared.change.Change.TheVariants.{Modify as ModifyChange}
 use Rattle.rif_tree.specs.declared.tree.Term.{Term}
-use Rattle.rif_actions.specs.declared.block.Block.{Block}
-use Rattle.rif_actions.specs.declared.block.Block.TheVariants.{Void, Changes}
+use Rattle.rif_actions.specs.declared.changes.Block.{Block}
+use Rattle.rif_actions.specs.declared.changes.Block.TheVariants.{Void, Changes}
 use Rattle.rif_actions.specs.declared.uses.FactUse.{FactUse}
 use Rattle.rif_actions.specs.declared.uses.FactUse.TheVariants.{Assert, Retract}
 use Rattle.rif_actions.specs.declared.uses.FrameUse.{FrameUse}

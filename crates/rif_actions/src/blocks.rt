@@ -10,14 +10,13 @@ ghost use Rattle.rif_actions.specs.Blocks.{of_both, least_value, slot_value, aft
 ghost use Rattle.rif_actions.specs.Blocks.{target_changes, action_changes, changes_of, block_in, block_of};
 ghost use Rattle.rif_actions.specs.Uses.{fact_change, frame_change, slot_change, HasMadeAtMost};
 
-use crate::block::Block;
+use crate::changes::Block;
 use crate::scope::Scope;
 use crate::uses::{FactUse, FrameUse};
-use rif_builtins::{pairs_with, value_in, values_in};
+use rif_builtins::{value_in, values_in};
 use rif_facts::Facts;
-use rif_values::are_same;
 use rif_tree::{Action, Decl, Rule, Target, Term};
-use rif_values::{Binding, Change, Const, Fact, Listed, OutOfMemory};
+use rif_values::{Binding, Change, Const, Fact, Listed, OutOfMemory, Shared, are_same, pairs_with};
 use std::alloc::Global;
 
 // How many objects can be made at most.
@@ -277,7 +276,8 @@ fn changes_of_atom(
 {
     match values_in(alloc, row, arguments)? {
         Some(constants) => {
-            let fact = Fact::Atom(predicate.copy()?, constants);
+            let arguments = Shared::from_vec(alloc, constants.into_vec())?;
+            let fact = Fact::Atom(predicate.copy()?, arguments);
             Ok(Some(only(alloc, way.change(fact))?))
         }
         None => Ok(None),

@@ -2,18 +2,18 @@
 //!
 //! | File | Has | Its words |
 //! |---|---|---|
-//! | `block.rt` | `Block`, what a rule's block is at a state | `specs/Blocks.antt` |
+//! | `changes.rt` | `Block`, the changes of a rule's block at a state, or that it is void | `specs/Blocks.antt` |
 //! | `blocks.rt` | `block`: a block is evaluated here | `specs/Blocks.antt` |
 //! | `scope.rt`, `uses.rt` | values of the block's variables, and what an action does | `specs/Blocks.antt`, `specs/Uses.antt` |
 //!
 //! Begin at `block`.
 #![tactic(auto)]
 
-mod block;
 mod blocks;
+mod changes;
 mod scope;
 mod uses;
 
-pub use block::Block;
 pub use blocks::block;
+pub use changes::Block;
 pub use scope::Scope;

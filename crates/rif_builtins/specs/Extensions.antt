@@ -1,9 +1,13 @@
 -- Which values of variables satisfy a formula. A formula takes rows to rows: each given row to the rows that
 -- extend it and satisfy the formula.
+--     FactBase                   what a condition is matched against: the facts of a state
+--     base_of facts              the base that has these facts
+--     matchable base             the facts that patterns are matched against
 --     match_fact p row f         the row that extends the row by the pattern's variables and gives the pattern's terms,
 --                                from left to right, the fact's constants as values, if there is one
---     through w formula rows     the rows taken through the formula
---     extensions_of w row f      the rows that extend the row and satisfy the formula, in order without repeats
+--     matched base p rows        the rows taken through a pattern: each with each fact that agrees
+--     through base f rows        the rows taken through the formula
+--     extensions_of base row f   the rows that extend the row and satisfy the formula, in order without repeats
 -- Source: RIF-PRD, "Matching substitution" and "Condition satisfaction". In a ready order (docs/PROFILE.md,
 -- "Ready order") each term that a row is asked for has its variables bound.
 use Rattle.std.specs.Prelude.{ℕ, Bool, false, ◌==◌, not, List, [], ◌∷◌, map, filter, length, Some, None, if◌then◌else◌}
@@ -27,9 +31,16 @@ use Rattle.rif_values.specs.Sets.{ordered}
 use Rattle.rif_builtins.specs.Builtins.{pred_value}
 use Rattle.rif_builtins.specs.Values.{value_of, values_of, variable_of}
 
--- what a pattern is matched against: the facts of the state
-abbrev pub matchable : List Fact → List Fact
-matchable facts = facts
+-- what a condition is matched against
+pub record FactBase : Type 0 where
+  pub facts : List Fact
+
+abbrev pub base_of : List Fact → FactBase
+base_of facts = record { facts = facts }
+
+-- the facts that patterns are matched against
+abbrev pub matchable : FactBase → List Fact
+matchable base = base.facts
 
 -- the row, where the value is there and is this constant
 abbrev pub agreeing : Row → Option Const → Const → Option Row
@@ -68,8 +79,8 @@ match_fact (MemberPattern o c) row (Frame p t w) = None
 match_fact (MemberPattern o c) row (Member p d) = match_terms (o ∷ c ∷ []) row (p ∷ d ∷ [])
 
 -- each row with each fact that agrees with the pattern
-abbrev pub matched : List Fact → Pattern → List Row → List Row
-matched w pattern rows = flat_map (λ row. filter_map (match_fact pattern row) (matchable w)) rows
+abbrev pub matched : FactBase → Pattern → List Row → List Row
+matched base pattern rows = flat_map (λ row. filter_map (match_fact pattern row) (matchable base)) rows
 
 -- taken through each in turn
 abbrev pub in_turn : List (List Row → List Row) → List Row → List Row
@@ -93,19 +104,19 @@ abbrev pub slots_of : Term → List (Term × Term) → List Pattern
 slots_of object pairs = map (λ pair. SlotPattern object pair.0 pair.1) pairs
 
 -- one formula, with what each formula inside it does to rows in that one's place
-abbrev pub through_step : List Fact → Formula-F (List Row → List Row) → List Row → List Row
-through_step w (AndLayer members) rows = in_turn members rows
-through_step w (OrLayer branches) rows = flat_map (λ branch. branch rows) branches
-through_step w (NotLayer inner) rows = filter (λ row. length (inner (row ∷ [])) == 0) rows
-through_step w (ExistsLayer vs inner) rows = map (without_variables vs) (inner rows)
-through_step w (EqualLayer a b) rows = filter_map (equal_row a b) rows
-through_step w (MemberLayer o c) rows = matched w (MemberPattern o c) rows
-through_step w (FrameLayer o pairs) rows = in_turn (map (matched w) (slots_of o pairs)) rows
-through_step w (AtomLayer p ts) rows = matched w (AtomPattern p ts) rows
-through_step w (HoldsLayer pred ts) rows = filter (λ row. holds_at pred (values_of row ts)) rows
+abbrev pub through_step : FactBase → Formula-F (List Row → List Row) → List Row → List Row
+through_step base (AndLayer members) rows = in_turn members rows
+through_step base (OrLayer branches) rows = flat_map (λ branch. branch rows) branches
+through_step base (NotLayer inner) rows = filter (λ row. length (inner (row ∷ [])) == 0) rows
+through_step base (ExistsLayer vs inner) rows = map (without_variables vs) (inner rows)
+through_step base (EqualLayer a b) rows = filter_map (equal_row a b) rows
+through_step base (MemberLayer o c) rows = matched base (MemberPattern o c) rows
+through_step base (FrameLayer o pairs) rows = in_turn (map (matched base) (slots_of o pairs)) rows
+through_step base (AtomLayer p ts) rows = matched base (AtomPattern p ts) rows
+through_step base (HoldsLayer pred ts) rows = filter (λ row. holds_at pred (values_of row ts)) rows
 
-abbrev pub through : List Fact → Formula → List Row → List Row
-through w = fold-Formula (List Row → List Row) (through_step w)
+abbrev pub through : FactBase → Formula → List Row → List Row
+through base = fold-Formula (List Row → List Row) (through_step base)
 
-abbrev pub extensions_of : List Fact → Row → Formula → List Row
-extensions_of w row formula = ordered binding_cmp (through w formula (row ∷ []))
+abbrev pub extensions_of : FactBase → Row → Formula → List Row
+extensions_of base row formula = ordered binding_cmp (through base formula (row ∷ []))

@@ -3,7 +3,7 @@
 //!
 //! | File | Has | Its words |
 //! |---|---|---|
-//! | `values.rt`, `builtins.rt` | values of terms, and the place of the built-ins | `specs/Values.antt`, `specs/Builtins.antt` |
+//! | `valuing.rt`, `builtins.rt` | values of terms, and the place of the built-ins | `specs/Values.antt`, `specs/Builtins.antt` |
 //! | `pattern.rt`, `matching.rt` | `Pattern`, one pattern against one fact | `specs/Extensions.antt` |
 //!
 //! Begin at `fact_match`.
@@ -12,9 +12,9 @@
 mod builtins;
 mod matching;
 mod pattern;
-mod values;
+mod valuing;
 
 pub use builtins::{apply_func, holds};
 pub use matching::{fact_match, term_match};
 pub use pattern::Pattern;
-pub use values::{value, value_in, values, values_in};
+pub use valuing::{value, value_in, values, values_in};

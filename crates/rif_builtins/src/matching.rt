@@ -5,9 +5,9 @@ ghost use Rattle.std.specs.Prelude.{Some, None, if◌then◌else◌};
 ghost use Rattle.rif_values.specs.Facts.{same_const};
 
 use crate::pattern::Pattern;
-use crate::values::value;
+use crate::valuing::value;
 use rif_tree::Term;
-use rif_values::{Binding, Const, Fact, OutOfMemory, are_same, with_variable};
+use rif_values::{Binding, Const, Fact, OutOfMemory, are_same};
 use std::alloc::Global;
 
 /// The one row, if there is one, that extends the row by the pattern's variables and gives the pattern's
@@ -95,7 +95,7 @@ pub fn term_match(
     match term {
         Term::Var(var) => match row.get(*var) {
             Some(held) => row_where(row, are_same(held, constant)),
-            None => Ok(Some(with_variable(alloc, row, *var, constant)?)),
+            None => Ok(Some(row.with(alloc, *var, constant)?)),
         },
         Term::Const(_) | Term::Call(..) => match value(alloc, row, term)? {
             Some(held) => row_where(row, are_same(&held, constant)),

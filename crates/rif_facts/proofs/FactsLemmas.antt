@@ -3,8 +3,8 @@ use Rattle.std.proofs.Common.{◌≡◌, ◌≤◌, Bool, not, List, Result, Ok,
 use Rattle.std.specs.List.Sorted.{IsSearchInRange}
 use Rattle.rif_values.specs.declared.fact.Fact.{Fact}
 use Rattle.rif_values.specs.Facts.{IsFacts, without, with_fact}
-use Rattle.rif_values.proofs.OrderLemmas.{total_facts, exact_facts}
-use Rattle.rif_sets.proofs.SetsMembers.{set_insert, set_filter}
+use Rattle.rif_values.proofs.CallerLemmas.{total_facts, exact_facts}
+use Rattle.rif_sets.proofs.CallerLemmas.{set_insert, set_filter}
 
 -- some facts of a state are a state
 pub facts_without : (test : Fact → Bool) (given old new : List Fact) → old ≡ given → IsFacts given

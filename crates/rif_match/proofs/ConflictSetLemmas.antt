@@ -6,8 +6,8 @@ use Rattle.std.specs.List.Sorted.{IsStrictlySortedBy}
 use Rattle.std.specs.Ordering.{ordering_then}
 use Rattle.std.specs.declared.cmp.Ordering.{Ordering}
 use Rattle.std.specs.declared.cmp.Ordering.TheVariants.{Less, Equal}
-use Rattle.rif_values.proofs.OrderLemmas.{total_bindings, exact_bindings}
-use Rattle.rif_sets.proofs.SetsMembers.{set_ordered}
+use Rattle.rif_values.proofs.CallerLemmas.{total_bindings, exact_bindings}
+use Rattle.rif_sets.proofs.CallerLemmas.{set_ordered}
 use Rattle.rif_values.specs.declared.fact.Fact.{Fact}
 use Rattle.rif_values.specs.declared.instance.Instance.{Instance}
 use Rattle.rif_tree.specs.declared.rule.Doc.{Doc}

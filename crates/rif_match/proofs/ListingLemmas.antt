@@ -10,7 +10,7 @@ use Rattle.rif_tree.specs.declared.rule.Rule.{Rule}
 use Rattle.rif_values.specs.contracts.binding.BindingOrd.TheImpl as binding_order
 use Rattle.rif_values.specs.Order.{binding_cmp}
 use Rattle.rif_values.specs.Sets.{ordered}
-use Rattle.rif_values.proofs.OrderLemmas.{binding_order_is}
+use Rattle.rif_values.proofs.CallerLemmas.{binding_order_is}
 use Rattle.rif_values.specs.Bindings.{Row}
 use Rattle.rif_builtins.specs.Extensions.{in_turn}
 use Rattle.rif_match.specs.ConflictSet.{rows_of, instance_of, instances_from}

@@ -1,15 +1,13 @@
 //! Rows taken through formulas. This is the plain way: each pattern is tried on each fact for each row.
 ghost use Rattle.std.specs.Prelude.{◌≡◌, ◌++◌, [], ◌∷◌, IfOk, OnOk, map, filter, length, ◌==◌};
 ghost use Rattle.std.specs.List.{filter_map, flat_map};
-ghost use Rattle.rif_builtins.specs.Extensions.{matched, match_fact, in_turn, through, slots_of, equal_row, holds_at};
+ghost use Rattle.rif_builtins.specs.Extensions.{base_of, matched, match_fact, in_turn, through, slots_of, equal_row};
+ghost use Rattle.rif_builtins.specs.Extensions.{holds_at};
 ghost use Rattle.rif_values.specs.Bindings.{without_variables};
 ghost use Rattle.rif_builtins.specs.Values.{values_of};
 
-use rif_builtins::holds;
 use crate::gathering::{push_found, push_kept};
-use rif_builtins::{fact_match, term_match};
-use rif_builtins::Pattern;
-use rif_builtins::{row_without, value, values};
+use rif_builtins::{Pattern, fact_match, holds, term_match, value, values};
 use rif_tree::{Formula, Pred, Term};
 use rif_values::{Binding, Fact, OutOfMemory};
 use sqlite_items::Items;
@@ -27,7 +25,7 @@ pub fn rows_through(
     formula: &Formula,
     rows: Vec<Binding>,
 ) -> Result<Vec<Binding>, OutOfMemory>
-    ensures { IfOk result (λ found. found.items ≡ through facts.now formula.now rows.items) }
+    ensures { IfOk result (λ found. found.items ≡ through (base_of facts.now) formula.now rows.items) }
 {
     match formula {
         Formula::And(members) => rows_through_each(alloc, facts, members.as_slice(), rows),
@@ -66,7 +64,7 @@ pub fn rows_through_each(
     members: &[Formula],
     rows: Vec<Binding>,
 ) -> Result<Vec<Binding>, OutOfMemory>
-    ensures { IfOk result (λ found. found.items ≡ in_turn (map (through facts.now) members.now) rows.items) }
+    ensures { IfOk result (λ found. found.items ≡ in_turn (map (through (base_of facts.now)) members.now) rows.items) }
 {
     let mut found = rows;
     for member in members {
@@ -83,7 +81,7 @@ fn rows_through_any(
     branches: &[Formula],
     rows: &[Binding],
 ) -> Result<Vec<Binding>, OutOfMemory>
-    ensures { IfOk result (λ found. found.items ≡ flat_map (λ branch. through facts.now branch rows.now) branches.now) }
+    ensures { IfOk result (λ found. found.items ≡ flat_map (λ branch. through (base_of facts.now) branch rows.now) branches.now) }
 {
     let mut all = Vec::new(alloc);
     for branch in branches {
@@ -102,7 +100,7 @@ fn rows_outside(
     inner: &Formula,
     rows: &[Binding],
 ) -> Result<Vec<Binding>, OutOfMemory>
-    ensures { IfOk result (λ found. found.items ≡ filter (λ row. length (through facts.now inner.now (row ∷ [])) == 0) rows.now) }
+    ensures { IfOk result (λ found. found.items ≡ filter (λ row. length (through (base_of facts.now) inner.now (row ∷ [])) == 0) rows.now) }
 {
     let mut all = Vec::new(alloc);
     for row in rows {
@@ -120,7 +118,7 @@ fn is_unsatisfied(
     inner: &Formula,
     row: &Binding,
 ) -> Result<bool, OutOfMemory>
-    ensures { IfOk result (λ none. none ≡ (length (through facts.now inner.now (row.now ∷ [])) == 0)) }
+    ensures { IfOk result (λ none. none ≡ (length (through (base_of facts.now) inner.now (row.now ∷ [])) == 0)) }
 {
     let mut one = Vec::new(alloc);
     one.push(row.copy()?)?;
@@ -135,7 +133,7 @@ fn rows_matching(
     pattern: &Pattern,
     rows: &[Binding],
 ) -> Result<Vec<Binding>, OutOfMemory>
-    ensures { IfOk result (λ found. found.items ≡ matched facts.now pattern.now rows.now) }
+    ensures { IfOk result (λ found. found.items ≡ matched (base_of facts.now) pattern.now rows.now) }
 {
     let mut all = Vec::new(alloc);
     for row in rows {
@@ -168,7 +166,7 @@ fn rows_through_slots(
     pairs: &[(Term, Term)],
     rows: Vec<Binding>,
 ) -> Result<Vec<Binding>, OutOfMemory>
-    ensures { IfOk result (λ found. found.items ≡ in_turn (map (matched facts.now) (slots_of object.now pairs.now)) rows.items) }
+    ensures { IfOk result (λ found. found.items ≡ in_turn (map (matched (base_of facts.now)) (slots_of object.now pairs.now)) rows.items) }
 {
     let mut found = rows;
     for pair in pairs {
@@ -198,7 +196,7 @@ fn rows_without(alloc: Global, vars: &[u32], rows: &[Binding]) -> Result<Vec<Bin
 {
     let mut all = Vec::new(alloc);
     for row in rows {
-        all.push(row_without(alloc, vars, row)?)?;
+        all.push(row.without(alloc, vars)?)?;
     }
     Ok(all)
 }

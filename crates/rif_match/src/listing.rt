@@ -3,7 +3,7 @@ ghost use Rattle.std.specs.Prelude.{◌≡◌, ◌+◌, ◌++◌, map, IfOk, OnO
 ghost use Rattle.std.specs.List.{flat_map};
 ghost use Rattle.std.specs.Option.{option_to_list};
 ghost use Rattle.rif_match.specs.ConflictSet.{conflict_set, instance_of, rows_of};
-ghost use Rattle.rif_builtins.specs.Extensions.{extensions_of, in_turn, through};
+ghost use Rattle.rif_builtins.specs.Extensions.{base_of, extensions_of, in_turn, through};
 
 use crate::extending::{rows_through, rows_through_each};
 use rif_facts::Facts;
@@ -24,7 +24,7 @@ pub fn matches(
     row: &Binding,
     formula: &Formula,
 ) -> Result<Listed<Binding>, OutOfMemory>
-    ensures { IfOk result (λ rows. rows ≡ extensions_of facts.now row.now formula.now) }
+    ensures { IfOk result (λ rows. rows ≡ extensions_of (base_of facts.now) row.now formula.now) }
 {
     let mut one = Vec::new(alloc);
     one.push(row.copy()?)?;
@@ -71,10 +71,10 @@ fn rows_satisfying(
     facts: &[Fact],
     rule: &Rule,
 ) -> Result<Listed<Binding>, OutOfMemory>
-    ensures { IfOk result (λ rows. rows ≡ rows_of facts.now rule.now) }
+    ensures { IfOk result (λ rows. rows ≡ rows_of (base_of facts.now) rule.now) }
 {
     let mut one = Vec::new(alloc);
-    one.push(Binding::from_pairs(Listed::new(alloc)))?;
+    one.push(Binding::new(alloc)?)?;
     let bound = rows_through_levels(alloc, facts, rule.levels.as_slice(), one)?;
     let found = rows_through_condition(alloc, facts, &rule.condition, bound)?;
     sorted_set(alloc, found)
@@ -87,7 +87,7 @@ fn rows_through_levels(
     levels: &[Level],
     rows: Vec<Binding>,
 ) -> Result<Vec<Binding>, OutOfMemory>
-    ensures { IfOk result (λ found. found.items ≡ in_turn (map (through facts.now) (flat_map (λ level. level.such_that) levels.now)) rows.items) }
+    ensures { IfOk result (λ found. found.items ≡ in_turn (map (through (base_of facts.now)) (flat_map (λ level. level.such_that) levels.now)) rows.items) }
 {
     let mut found = rows;
     for level in levels {
@@ -103,7 +103,7 @@ fn rows_through_condition(
     condition: &Option<Formula>,
     rows: Vec<Binding>,
 ) -> Result<Vec<Binding>, OutOfMemory>
-    ensures { IfOk result (λ found. found.items ≡ in_turn (map (through facts.now) (option_to_list condition.now)) rows.items) }
+    ensures { IfOk result (λ found. found.items ≡ in_turn (map (through (base_of facts.now)) (option_to_list condition.now)) rows.items) }
 {
     match condition {
         Some(formula) => rows_through(alloc, facts, formula, rows),

@@ -1,2 +1,3 @@
+pub mod LimitLaws
 pub mod Limits
 pub mod Refusals

@@ -2,7 +2,12 @@
 -- Source: the project's own (docs/FORMATS.md, "Refusals").
 use Rattle.std.specs.Prelude.{ℕ}
 use Rattle.rif_refusals.specs.declared.refusal.Refusal.{Refusal}
-use Rattle.rif_refusals.specs.declared.refusal.Refusal.TheVariants.{InputTooLong, NotUtf8, BadToken, Expected, TooDeep, IntRange, UnknownPrefix, LeftOut, UnknownBuiltin, Arity, BadStrategy, PriorityRange, TooMany, Undeclared, DeclaredTwice, Unsafe, BadLine, BudgetTooLarge, TooManyItems, TooManyClients, TooManyBranches}
+use Rattle.rif_refusals.specs.declared.refusal.Refusal.TheVariants.{InputTooLong, NotUtf8, BadToken, Expected}
+use Rattle.rif_refusals.specs.declared.refusal.Refusal.TheVariants.{TooDeep, IntRange, UnknownPrefix, LeftOut}
+use Rattle.rif_refusals.specs.declared.refusal.Refusal.TheVariants.{UnknownBuiltin, Arity, BadStrategy, PriorityRange}
+use Rattle.rif_refusals.specs.declared.refusal.Refusal.TheVariants.{TooMany, Undeclared, DeclaredTwice, Unsafe}
+use Rattle.rif_refusals.specs.declared.refusal.Refusal.TheVariants.{BadLine, BudgetTooLarge, TooManyItems}
+use Rattle.rif_refusals.specs.declared.refusal.Refusal.TheVariants.{TooManyClients, TooManyBranches}
 
 -- the number by which a run prints a refusal
 abbrev pub refusal_number : Refusal → ℕ

@@ -1,9 +1,11 @@
 ghost use Rattle.std.specs.Prelude.{◌≡◌, IfOk};
 ghost use Rattle.rif_refusals.specs.Refusals.{refusal_number};
 
-use rif_values::OutOfMemory;
-use crate::limits::{MOST_BRANCHES, MOST_BUDGETS, MOST_CLIENTS, MOST_INPUT_BYTES, MOST_ITEMS, MOST_OPEN_BRACKETS, MOST_PRIORITY};
-use rif_values::Text;
+use crate::limits::{
+    MOST_BRANCHES, MOST_BUDGETS, MOST_CLIENTS, MOST_INPUT_BYTES, MOST_ITEMS, MOST_OPEN_BRACKETS,
+    MOST_PRIORITY,
+};
+use rif_values::{OutOfMemory, Text};
 use std::alloc::AllocError;
 use std::fmt;
 use thiserror::Error;

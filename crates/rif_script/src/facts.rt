@@ -8,7 +8,7 @@ use crate::constants::{read_const, read_consts};
 use crate::line_fault::LineFault;
 use crate::sent_tokens::SentTokens;
 use prd_reader::{Leaf, TextPool};
-use rif_values::{Const, Fact};
+use rif_values::{Const, Fact, Shared};
 
 /// The fact that all the tokens are.
 #[tactic(auto, unfolding(crate::specs::ReadingItems::fact_from))]
@@ -85,6 +85,7 @@ fn read_atom(pool: &mut TextPool, predicate: Const, at: SentTokens<'_>) -> Resul
     if !rest.is_empty() {
         return Err(LineFault::Bad);
     }
+    let arguments = Shared::from_vec(pool.alloc(), arguments.into_vec())?;
     Ok(Fact::Atom(predicate, arguments))
 }
 

@@ -1,3 +1,4 @@
+pub mod CallerLemmas
 pub mod SetsChanges
 pub mod SetsMembers
 pub mod SetsSearch

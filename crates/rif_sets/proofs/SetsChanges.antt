@@ -8,7 +8,8 @@ module _ {K : Type 0} {cmp : K → K → Ordering} (total : IsTotalOrder cmp) (e
   -- ---- which elements the words leave
 
   -- beyond old new has what new has and old hasn't
-  pub has_beyond : (old new : List K) (q : K) → has cmp (beyond cmp old new) q ≡ (not (has cmp old q) && has cmp new q)
+  pub has_beyond : (old new : List K) (q : K)
+      → has cmp (beyond cmp old new) q ≡ (not (has cmp old q) && has cmp new q)
   has_beyond old new q = has_filter total exact (λ x. not (has cmp old x)) new q
 
   -- patched old more less has what more has, and what old has and less hasn't

@@ -1,6 +1,7 @@
 -- Which elements a list has, that a set is settled by its elements, and what keeps a list a set.
 -- The lemmas of the last section take the order's laws first: that it is total, and that it is exact.
-use Rattle.std.proofs.Common.{◌≡◌, Bool, true, false, not, cond, ◌&&◌, ◌||◌, List, [], ◌∷◌, ◌++◌, filter, Ordering, Less, Equal, Greater, IsTrue, ◌↔◌, refl, sym, ap, ◌∙◌, arith}
+use Rattle.std.proofs.Common.{◌≡◌, Bool, true, false, not, cond, ◌&&◌, ◌||◌, List, [], ◌∷◌, ◌++◌, filter, Ordering}
+use Rattle.std.proofs.Common.{Less, Equal, Greater, IsTrue, ◌↔◌, refl, sym, ap, ◌∙◌, arith}
 use Rattle.std.specs.Ordering.{eq_by_cmp, match_ordering, ordering_reverse, is_eq}
 use Rattle.std.specs.List.{AllByRecursion, Contains}
 use Rattle.std.specs.List.Sorted.{IsStrictlySortedBy}
@@ -23,7 +24,8 @@ by_order P Less a b c less equal greater = less refl
 by_order P Equal a b c less equal greater = equal refl
 by_order P Greater a b c less equal greater = greater refl
 
-pub by_test : {X : Type 0} (P : X → Type 0) (b : Bool) (x y : X) → (b ≡ true → P x) → (b ≡ false → P y) → P (cond b x y)
+pub by_test : {X : Type 0} (P : X → Type 0) (b : Bool) (x y : X) → (b ≡ true → P x) → (b ≡ false → P y)
+    → P (cond b x y)
 by_test P true x y passes fails = passes refl
 by_test P false x y passes fails = fails refl
 
@@ -35,7 +37,8 @@ module _ {K : Type 0} (cmp : K → K → Ordering) where
   with_all_append ws xs ys = fold-append (insert_key cmp) ws xs ys
 
   -- one more element at the end
-  pub with_all_push : (ws xs : List K) (x : K) → with_all cmp ws (xs ++ x ∷ []) ≡ insert_key cmp (with_all cmp ws xs) x
+  pub with_all_push : (ws xs : List K) (x : K)
+      → with_all cmp ws (xs ++ x ∷ []) ≡ insert_key cmp (with_all cmp ws xs) x
   with_all_push ws xs x = fold_push (insert_key cmp) ws xs x
 
   -- what holds of each element, and of one that is put in, holds of each afterwards
@@ -68,7 +71,8 @@ all_filter P p (x ∷ xs) all =
 pub all_remove : {K : Type 0} (P : K → Type 0) (p : K → Bool) (xs : List K) → AllByRecursion P xs
     → AllByRecursion P (remove_key p xs)
 all_remove P p [] all = tt
-all_remove P p (x ∷ xs) all = by_test (AllByRecursion P) (p x) _ _ (λ _. all.1) (λ _. (all.0, all_remove P p xs all.1))
+all_remove P p (x ∷ xs) all =
+    by_test (AllByRecursion P) (p x) _ _ (λ _. all.1) (λ _. (all.0, all_remove P p xs all.1))
 
 -- ---- what needs a total order alone
 
@@ -119,7 +123,8 @@ module _ {K : Type 0} {cmp : K → K → Ordering} (total : IsTotalOrder cmp) (e
 
   -- an element is there exactly where the list contains it
   pub has_contains : (xs : List K) (x : K) → IsTrue (has cmp xs x) ↔ Contains xs x
-  has_contains xs x = (Contains-from_any (tells_apart exact) x xs, list_any-from_Contains (eq_by_cmp_equiv total) x xs)
+  has_contains xs x =
+      (Contains-from_any (tells_apart exact) x xs, list_any-from_Contains (eq_by_cmp_equiv total) x xs)
 
   -- ---- which elements each word leaves
 

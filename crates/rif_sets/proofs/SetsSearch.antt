@@ -1,5 +1,6 @@
 -- What a binary search finds in a set.
-use Rattle.std.proofs.Common.{◌≡◌, ℕ, zero, suc, ◌≤◌, ◌<◌, Bool, true, false, ◌||◌, List, [], ◌∷◌, length, get_or, Ordering, Less, Equal, Greater, Result, Ok, Err, IfOk, IfErr, refl, sym, ap, ◌∙◌, arith}
+use Rattle.std.proofs.Common.{◌≡◌, ℕ, zero, suc, ◌≤◌, ◌<◌, Bool, true, false, ◌||◌, List, [], ◌∷◌, length, get_or}
+use Rattle.std.proofs.Common.{Ordering, Less, Equal, Greater, Result, Ok, Err, IfOk, IfErr, refl, sym, ap, ◌∙◌, arith}
 use Rattle.std.specs.Ordering.{ordering_index, ordering_reverse, match_ordering, is_eq}
 use Rattle.std.specs.List.{AllByRecursion, AllWithin, HoldsAt, insert}
 use Rattle.std.specs.List.Sorted.{IsStrictlySortedBy, IsNonDecreasingBy, IsSearchInRange, IsBinarySearchResult}
@@ -38,13 +39,15 @@ module _ {K : Type 0} {cmp : K → K → Ordering} (total : IsTotalOrder cmp) wh
   first_index x k (y ∷ ys) all zero d within = index_rises x y k all.0
   first_index x k (y ∷ ys) all (suc j) d within = first_index x k ys all.1 j d (omega arith)
 
-  pub comparisons_rise : (set : List K) (k : K) → IsSet cmp set → IsNonDecreasingBy (λ y. ordering_index (cmp y k)) set
+  pub comparisons_rise : (set : List K) (k : K) → IsSet cmp set
+      → IsNonDecreasingBy (λ y. ordering_index (cmp y k)) set
   unfolding IsStrictlySortedBy
   comparisons_rise [] k s i j d up within = absurd (omega arith)
   comparisons_rise (x ∷ xs) k s zero zero d up within = omega arith
   comparisons_rise (x ∷ xs) k s zero (suc j) d up within = first_index x k xs s.0 j d (omega arith)
   comparisons_rise (x ∷ xs) k s (suc i) zero d up within = absurd (omega arith)
-  comparisons_rise (x ∷ xs) k s (suc i) (suc j) d up within = comparisons_rise xs k s.1 i j d (omega arith) (omega arith)
+  comparisons_rise (x ∷ xs) k s (suc i) (suc j) d up within =
+      comparisons_rise xs k s.1 i j d (omega arith) (omega arith)
 
   -- ---- what is found
 
@@ -57,7 +60,8 @@ module _ {K : Type 0} {cmp : K → K → Ordering} (total : IsTotalOrder cmp) wh
   any_later false c is = is
 
   -- an element that compares alike is there
-  pub has_found : (xs : List K) (k : K) (i : ℕ) → i < length xs → HoldsAt (λ y. cmp y k ≡ Equal) xs i → has cmp xs k ≡ true
+  pub has_found : (xs : List K) (k : K) (i : ℕ) → i < length xs → HoldsAt (λ y. cmp y k ≡ Equal) xs i
+      → has cmp xs k ≡ true
   has_found [] k i within alike = absurd (omega arith)
   has_found (x ∷ xs) k zero within alike = any_first _ _ (ap is_eq (turned x k Equal (alike k)))
   has_found (x ∷ xs) k (suc i) within alike = any_later _ _ (has_found xs k i (omega arith) alike)

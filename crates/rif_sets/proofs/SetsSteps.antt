@@ -1,5 +1,6 @@
 -- Sets and changes made step by step, as loops make them.
-use Rattle.std.proofs.Common.{◌≡◌, Bool, true, false, not, List, [], ◌∷◌, filter, Ordering, Less, refl, sym, ap, ◌∙◌, arith}
+use Rattle.std.proofs.Common.{◌≡◌, Bool, true, false, not, List, [], ◌∷◌, filter, Ordering, Less, refl, sym, ap, ◌∙◌}
+use Rattle.std.proofs.Common.{arith}
 use Rattle.std.specs.Ordering.{eq_by_cmp, is_gt}
 use Rattle.std.specs.List.{All}
 use Rattle.std.specs.BTreeSet.{insert_key}
@@ -8,7 +9,9 @@ use Rattle.std.specs.Cmp.{IsTotalOrder}
 use Rattle.std.proofs.lemmas.Map.Keys.{sorted_tail}
 use Rattle.std.proofs.lemmas.Map.Views.{All-after_first, btree_set_IsLowerBound-head}
 use Rattle.rif_values.specs.Sets.{IsExact, has, with_all, without_all, ordered, IsSet, patched}
-use Rattle.rif_sets.proofs.SetsMembers.{same_set, equal_is, has_filter, has_insert, has_ordered, has_remove, has_without_all, set_filter, set_insert, set_ordered, set_remove, set_without_all}
+use Rattle.rif_sets.proofs.SetsMembers.{same_set, equal_is, has_filter, has_insert, has_ordered, has_remove}
+use Rattle.rif_sets.proofs.SetsMembers.{has_without_all, set_filter, set_insert, set_ordered, set_remove}
+use Rattle.rif_sets.proofs.SetsMembers.{set_without_all}
 use Rattle.rif_sets.proofs.SetsChanges.{has_patched, set_patched, is_patched}
 
 module _ {K : Type 0} {cmp : K → K → Ordering} (total : IsTotalOrder cmp) (exact : IsExact cmp) where

@@ -3,7 +3,9 @@
 //!
 //! Source: the project's own way to write finite sets.
 ghost use Rattle.rif_values.specs.Sets.{IsExact};
-ghost use Rattle.rif_sets.specs.SetLaws.{HasWhatIsContained, IsSettledByElements, OrdersAnyList, LeavesASetInOrder, AddsAndRemoves, IsDoneOneByOne, TellsTheDifference, LeadsToTheNewSet, CanBeDone, IsNetOfWhatItLeadsTo, AreTogetherOne};
+ghost use Rattle.rif_sets.specs.SetLaws.{HasWhatIsContained, IsSettledByElements, OrdersAnyList, LeavesASetInOrder};
+ghost use Rattle.rif_sets.specs.SetLaws.{AddsAndRemoves, IsDoneOneByOne, TellsTheDifference, LeadsToTheNewSet};
+ghost use Rattle.rif_sets.specs.SetLaws.{CanBeDone, IsNetOfWhatItLeadsTo, AreTogetherOne};
 
 /// Law: a list has an element exactly where it contains it.
 #[tactic(auto, using(crate::proofs::SetsMembers::has_contains))]

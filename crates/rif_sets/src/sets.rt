@@ -4,8 +4,7 @@ ghost use Rattle.std.specs.List.Sorted.{IsSearchInRange};
 ghost use Rattle.std.specs.BTreeSet.{insert_key};
 ghost use Rattle.rif_values.specs.Sets.{has, IsSet, ordered};
 
-use rif_values::OutOfMemory;
-use rif_values::Listed;
+use rif_values::{Listed, OutOfMemory};
 use std::alloc::Global;
 use std::cmp::Ordering;
 

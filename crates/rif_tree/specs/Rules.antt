@@ -1,5 +1,6 @@
 -- What is said of a rule of a document.
---     forall_variables rule    the `Forall` variables of a rule, in order of declaration: those that its instances bind
+--     forall_variables rule    the `Forall` variables of a rule, in order of declaration: those that its instances
+--                              bind
 --     name_of names v          the name of a variable, and no text where it has none
 --     shown_variables rule     these variables, each with its name, as a run shows them
 --     rule_of doc n            the rule of a number, counted from 1

@@ -1,10 +1,8 @@
 ghost use Rattle.std.specs.Prelude.{◌≡◌, IfOk};
 
-use rif_values::Const;
 use crate::copying::{CopyIn, copy_items};
-use rif_values::OutOfMemory;
-use rif_values::Text;
 use crate::tree::{Formula, Level, Term};
+use rif_values::{Const, OutOfMemory, Text};
 use sqlite_items::Items;
 use std::alloc::Global;
 

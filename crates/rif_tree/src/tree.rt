@@ -4,10 +4,8 @@
 ghost use Rattle.std.specs.Prelude.{◌≡◌, IfOk};
 
 use crate::builtin::{Func, Pred};
-use rif_values::Const;
 use crate::copying::{CopyIn, copy_items};
-use rif_values::OutOfMemory;
-use rif_values::Text;
+use rif_values::{Const, OutOfMemory, Text};
 use sqlite_items::{Boxed, Items};
 use std::alloc::Global;
 

@@ -16,7 +16,8 @@ rises_step low p ps v c false true below is rises above absent rest = absurd (cc
 rises_step low p ps v c false false below is rises above absent rest =
     let after : p.0 < v = grind (arith, nat_tests) in (rises.0, rest after absent)
 
-rises_bound : (low : ℕ) (ps : List (ℕ × Const)) (v : ℕ) (c : Const) → RisesFrom low ps → low < v → value_at ps v ≡ None
+rises_bound : (low : ℕ) (ps : List (ℕ × Const)) (v : ℕ) (c : Const) → RisesFrom low ps → low < v
+    → value_at ps v ≡ None
     → RisesFrom low (bound ps v c)
 rises_bound low [] v c rises above absent = (above, tt)
 rises_bound low (p ∷ ps) v c rises above absent =
@@ -26,7 +27,8 @@ rises_bound low (p ∷ ps) v c rises above absent =
 binding_step : (p : ℕ × Const) (ps : List (ℕ × Const)) (v : ℕ) (c : Const) (before same : Bool)
     → nat_lt v p.0 ≡ before → (p.0 == v) ≡ same → RisesFrom p.0 ps → cond same (Some p.1) (value_at ps v) ≡ None
     → IsBinding (cond before ((v, c) ∷ p ∷ ps) (p ∷ bound ps v c))
-binding_step p ps v c true same below is rises absent = let first : v < p.0 = grind (arith, nat_tests) in (first, rises)
+binding_step p ps v c true same below is rises absent =
+    let first : v < p.0 = grind (arith, nat_tests) in (first, rises)
 binding_step p ps v c false true below is rises absent = absurd (cc absent)
 binding_step p ps v c false false below is rises absent =
     let after : p.0 < v = grind (arith, nat_tests) in rises_bound p.0 ps v c rises after absent

@@ -1,5 +1,6 @@
 -- One more step of a loop that gathers what it finds, or keeps what passes a test.
-use Rattle.std.proofs.Common.{◌≡◌, ◌∙◌, ℕ, ◌+◌, ◌<◌, Bool, cond, List, [], ◌∷◌, ◌++◌, length, take, filter, filter_map}
+use Rattle.std.proofs.Common.{◌≡◌, ◌∙◌, ℕ, ◌+◌, ◌<◌, Bool, cond, List, [], ◌∷◌, ◌++◌, length, take, filter}
+use Rattle.std.proofs.Common.{filter_map}
 use Rattle.std.proofs.Common.{get_or, Some, None, refl, ap, sym, append_assoc}
 use Rattle.std.specs.Option.{option_to_list}
 use Rattle.std.specs.declared.option.Option.{Option}
@@ -29,7 +30,8 @@ pub kept_step : {X : Type 0} (p : X → Bool) (xs : List X) (i : ℕ) (x : X) (k
     → i < length xs → x ≡ get_or xs i x
     → kept ≡ p x → old ≡ filter p (take i xs) → new ≡ old ++ cond kept (x ∷ []) [] → new ≡ filter p (take (i + 1) xs)
 kept_step p xs i x kept old new within is agrees before after =
-    after ∙ ap (λ ys. ys ++ cond kept (x ∷ []) []) before ∙ ap (λ b. filter p (take i xs) ++ cond b (x ∷ []) []) agrees
+    after ∙ ap (λ ys. ys ++ cond kept (x ∷ []) []) before
+    ∙ ap (λ b. filter p (take i xs) ++ cond b (x ∷ []) []) agrees
     ∙ sym (filter_step p xs i x within is)
 
 pub found_step : {X Y : Type 0} (h : X → Option Y) (xs : List X) (i : ℕ) (x : X) (found : Option Y)

@@ -38,9 +38,12 @@ pub const_order_is : const_order.ghosts.cmp ≡ const_cmp
 const_order_is = λ i a b. derived_const a b i
 
 derived_fact : (a b : Fact) → fact_order.ghosts.cmp a b ≡ fact_cmp a b
-derived_fact (Atom p cs) (Atom q ds) = ap (λ (R : Const → Const → Ordering). ordering_then (R p q) (slice_cmp R cs ds)) const_order_is
-derived_fact (Frame o s v) (Frame p t w) = ap (λ (R : Const → Const → Ordering). ordering_then (R o p) (ordering_then (R s t) (R v w))) const_order_is
-derived_fact (Member o c) (Member p d) = ap (λ (R : Const → Const → Ordering). ordering_then (R o p) (R c d)) const_order_is
+derived_fact (Atom p cs) (Atom q ds) =
+    ap (λ (R : Const → Const → Ordering). ordering_then (R p q) (slice_cmp R cs ds)) const_order_is
+derived_fact (Frame o s v) (Frame p t w) =
+    ap (λ (R : Const → Const → Ordering). ordering_then (R o p) (ordering_then (R s t) (R v w))) const_order_is
+derived_fact (Member o c) (Member p d) =
+    ap (λ (R : Const → Const → Ordering). ordering_then (R o p) (R c d)) const_order_is
 derived_fact _ _ = refl
 
 -- the derived order of facts is the stated one
@@ -49,7 +52,8 @@ fact_order_is = λ i a b. derived_fact a b i
 
 -- the derived order of bindings is the stated one
 pub binding_order_is : binding_order.ghosts.cmp ≡ binding_cmp
-binding_order_is = ap (λ (R : Const → Const → Ordering). slice_cmp (λ (p q : ℕ × Const). ordering_then (nat_cmp p.0 q.0) (R p.1 q.1))) const_order_is
+binding_order_is =
+    ap (λ (R : Const → Const → Ordering). slice_cmp (λ (p q : ℕ × Const). ordering_then (nat_cmp p.0 q.0) (R p.1 q.1))) const_order_is
 
 -- the derived order of instances is the stated one
 pub instance_order_is : instance_order.ghosts.cmp ≡ instance_cmp
@@ -57,20 +61,27 @@ instance_order_is =
     ap (λ (R : List (ℕ × Const) → List (ℕ × Const) → Ordering). λ (a b : Instance). ordering_then (nat_cmp a.rule b.rule) (R a.row b.row)) binding_order_is
 
 pub total_consts : IsTotalOrder const_cmp
-total_consts = let P : (Const → Const → Ordering) → Type 0 = λ R. IsTotalOrder R in subst P const_order_is (const_laws.lawful).total
+total_consts =
+    let P : (Const → Const → Ordering) → Type 0 = λ R. IsTotalOrder R in
+    subst P const_order_is (const_laws.lawful).total
 
 pub total_facts : IsTotalOrder fact_cmp
-total_facts = let P : (Fact → Fact → Ordering) → Type 0 = λ R. IsTotalOrder R in subst P fact_order_is (fact_laws.lawful).total
+total_facts =
+    let P : (Fact → Fact → Ordering) → Type 0 = λ R. IsTotalOrder R in subst P fact_order_is (fact_laws.lawful).total
 
 pub total_bindings : IsTotalOrder binding_cmp
 total_bindings =
-    let P : (List (ℕ × Const) → List (ℕ × Const) → Ordering) → Type 0 = λ R. IsTotalOrder R in subst P binding_order_is (binding_laws.lawful).total
+    let P : (List (ℕ × Const) → List (ℕ × Const) → Ordering) → Type 0 = λ R. IsTotalOrder R in
+    subst P binding_order_is (binding_laws.lawful).total
 
 pub total_instances : IsTotalOrder instance_cmp
-total_instances = let P : (Instance → Instance → Ordering) → Type 0 = λ R. IsTotalOrder R in subst P instance_order_is (instance_laws.lawful).total
+total_instances =
+    let P : (Instance → Instance → Ordering) → Type 0 = λ R. IsTotalOrder R in
+    subst P instance_order_is (instance_laws.lawful).total
 
 pub are_total : AreTotal
-are_total = record { constants = total_consts; facts = total_facts; bindings = total_bindings; instances = total_instances }
+are_total =
+    record { constants = total_consts; facts = total_facts; bindings = total_bindings; instances = total_instances }
 
 -- constants that compare alike are one
 pub exact_consts : IsExact const_cmp
@@ -85,10 +96,12 @@ exact_consts _ _ alike = cc
 -- facts that compare alike are one
 pub exact_facts : IsExact fact_cmp
 exact_facts (Atom p cs) (Atom q ds) alike =
-    let first = exact_then exact_consts p q _ alike in λ i. Atom (first.0 i) (exact_lists exact_consts cs ds first.1 i)
+    let first = exact_then exact_consts p q _ alike in
+    λ i. Atom (first.0 i) (exact_lists exact_consts cs ds first.1 i)
 exact_facts (Frame o s v) (Frame p t w) alike =
     let first = exact_then exact_consts o p _ alike in
-    let second = exact_then exact_consts s t _ first.1 in λ i. Frame (first.0 i) (second.0 i) (exact_consts v w second.1 i)
+    let second = exact_then exact_consts s t _ first.1 in
+    λ i. Frame (first.0 i) (second.0 i) (exact_consts v w second.1 i)
 exact_facts (Member o c) (Member p d) alike =
     let first = exact_then exact_consts o p _ alike in λ i. Member (first.0 i) (exact_consts c d first.1 i)
 exact_facts _ _ alike = cc
@@ -100,7 +113,9 @@ exact_bindings = exact_lists (exact_pairs nat_cmp const_cmp exact_unsigned exact
 -- instances that compare alike are one
 pub exact_instances : IsExact instance_cmp
 exact_instances a b alike =
-    let first = exact_then exact_unsigned a.rule b.rule _ alike in λ i. record { rule = first.0 i; row = exact_bindings a.row b.row first.1 i }
+    let first = exact_then exact_unsigned a.rule b.rule _ alike in
+    λ i. record { rule = first.0 i; row = exact_bindings a.row b.row first.1 i }
 
 pub tell_all_apart : TellAllApart
-tell_all_apart = record { constants = exact_consts; facts = exact_facts; bindings = exact_bindings; instances = exact_instances }
+tell_all_apart =
+    record { constants = exact_consts; facts = exact_facts; bindings = exact_bindings; instances = exact_instances }

@@ -4,5 +4,6 @@ pub mod InstanceOrder
 pub mod Numbers
 pub mod Order
 pub mod OrderLaws
+pub mod Places
 pub mod Sets
 pub mod Writing

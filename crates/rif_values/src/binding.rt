@@ -1,12 +1,13 @@
-ghost use Rattle.std.specs.Prelude.{◌≡◌, IfOk, Some};
+ghost use Rattle.std.specs.Prelude.{◌≡◌, [], IfOk, None, Some};
 ghost use Rattle.std.specs.Option.{option_copied};
 ghost use Rattle.rif_values.specs.Order.{binding_cmp};
-ghost use Rattle.rif_values.specs.Bindings.{IsBinding, value_at};
+ghost use Rattle.rif_values.specs.Bindings.{IsBinding, bound, value_at, without_variables};
 
 use crate::constant::Const;
 use crate::out_of_memory::OutOfMemory;
-use crate::listed::Listed;
-use std::alloc::AllocError;
+use crate::rows::{pairs_with, pairs_without};
+use crate::shared::Shared;
+use std::alloc::{AllocError, Global};
 use std::cmp::Ordering;
 use std::marker::Model;
 
@@ -15,9 +16,9 @@ use std::marker::Model;
 /// is by their values in order of variable.
 ///
 /// Source: RIF-PRD, "Matching substitution"; the order is our own (docs/PROFILE.md, "Order").
-#[derive(Debug, PartialEq, Eq, PartialOrd, Ord, Drop)]
+#[derive(Debug, PartialEq, Eq, PartialOrd, Ord, Hash, Drop)]
 pub struct Binding {
-    pairs: Listed<(u32, Const)>,
+    pairs: Shared<(u32, Const)>,
 }
 
 impl Model for Binding {
@@ -35,8 +36,16 @@ impl Model for Binding {
 }
 
 impl Binding {
-    /// The binding of these pairs, whose variables must rise, in constant time.
-    pub fn from_pairs(pairs: Listed<(u32, Const)>) -> Binding
+    /// The binding of no variable. It takes memory of constant size.
+    pub fn new(alloc: Global) -> Result<Binding, OutOfMemory>
+        ensures { IfOk result (λ binding. binding ≡ []) }
+    {
+        let pairs = Shared::from_vec(alloc, Vec::new(alloc))?;
+        Ok(Binding::from_pairs(pairs))
+    }
+
+    /// The binding of these pairs, whose variables must rise, in constant time and without memory.
+    pub fn from_pairs(pairs: Shared<(u32, Const)>) -> Binding
         requires { IsBinding pairs }
         ensures { result ≡ pairs }
     {
@@ -63,6 +72,29 @@ impl Binding {
         None
     }
 
+    /// The binding with the value of one more variable, which must have none here, at the cost of a copy of
+    /// the list of pairs.
+    ///
+    /// Source: RIF-PRD, "Matching substitution".
+    pub fn with(&self, alloc: Global, var: u32, constant: &Const) -> Result<Binding, OutOfMemory>
+        requires { value_at self.now var ≡ None }
+        ensures { IfOk result (λ longer. longer ≡ bound self.now var constant.now) }
+    {
+        let pairs = pairs_with(alloc, self.pairs(), var, constant)?;
+        let shared = Shared::from_vec(alloc, pairs.into_vec())?;
+        Ok(Binding::from_pairs(shared))
+    }
+
+    /// The binding without the values of some variables. Each of its pairs is compared with each of these
+    /// variables, and those that stay are copied.
+    pub fn without(&self, alloc: Global, vars: &[u32]) -> Result<Binding, OutOfMemory>
+        ensures { IfOk result (λ shorter. shorter ≡ without_variables vars.now self.now) }
+    {
+        let pairs = pairs_without(alloc, vars, self.pairs())?;
+        let shared = Shared::from_vec(alloc, pairs)?;
+        Ok(Binding::from_pairs(shared))
+    }
+
     /// The order of bindings.
     ///
     /// Source: our own (docs/PROFILE.md, "Order").
@@ -72,7 +104,7 @@ impl Binding {
         Ord::cmp(self, other)
     }
 
-    /// An equal binding. It copies the list of pairs, each in constant time.
+    /// An equal binding, in constant time: the two share their pairs.
     pub fn copy(&self) -> Result<Binding, OutOfMemory>
         ensures { IfOk result (λ copy. copy ≡ self.now) }
     {

@@ -3,8 +3,8 @@ ghost use Rattle.std.specs.Prelude.{◌≡◌, IfOk};
 use crate::binding::Binding;
 use crate::constant::Const;
 use crate::fact::Fact;
-use crate::out_of_memory::OutOfMemory;
 use crate::listed::Listed;
+use crate::out_of_memory::OutOfMemory;
 use std::alloc::AllocError;
 
 /// A change of facts that a client asks for, or that an action makes.

@@ -2,8 +2,8 @@ ghost use Rattle.std.specs.Prelude.{◌≡◌, IfOk};
 ghost use Rattle.rif_values.specs.Facts.{same_const};
 ghost use Rattle.rif_values.specs.Order.{const_cmp};
 
-use crate::out_of_memory::OutOfMemory;
 use crate::integer::Integer;
+use crate::out_of_memory::OutOfMemory;
 use crate::text::Text;
 use std::alloc::AllocError;
 use std::cmp::Ordering;
@@ -12,7 +12,7 @@ use std::cmp::Ordering;
 /// or bytes.
 ///
 /// Source: RIF-PRD, "Terms"; the order is our own (docs/PROFILE.md, "Order").
-#[derive(Debug, PartialEq, Eq, PartialOrd, Ord, Drop)]
+#[derive(Debug, PartialEq, Eq, PartialOrd, Ord, Hash, Drop)]
 pub enum Const {
     /// An `xs:integer`.
     Int(Integer),

@@ -11,7 +11,7 @@ use std::cmp::Ordering;
 ///
 /// Source: RIF-PRD, "Definitions and notational conventions"; the order is our own (docs/PROFILE.md,
 /// "Order").
-#[derive(Debug, PartialEq, Eq, PartialOrd, Ord, Drop)]
+#[derive(Debug, PartialEq, Eq, PartialOrd, Ord, Hash, Drop)]
 pub struct Instance {
     pub rule: u32,
     pub row: Binding,

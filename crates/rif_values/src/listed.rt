@@ -1,11 +1,15 @@
 ghost use Rattle.std.specs.Prelude.{◌≡◌, ◌++◌, ◌∷◌, [], ◌↔◌, length, slice_get, IsTrue, OnOk, OnErr};
 ghost use Rattle.std.specs.List.{AllZip};
 ghost use Rattle.std.specs.Option.{option_copied};
-ghost use Rattle.std.specs.Cmp.Lexicographic.{slice_cmp, slice_partial_cmp, pointwise, lists_equiv, lists_total, lists_ties, lists_agrees, lists_po, lists_per};
+ghost use Rattle.std.specs.Cmp.Lexicographic.{slice_cmp, slice_partial_cmp, pointwise, lists_equiv, lists_total};
+ghost use Rattle.std.specs.Cmp.Lexicographic.{lists_ties, lists_agrees, lists_po, lists_per};
+ghost use Rattle.std.specs.Hash as fed;
+ghost use Rattle.std.specs.Hash.{items_Alike};
 
 use crate::out_of_memory::OutOfMemory;
 use std::alloc::{AllocError, Global};
 use std::cmp::Ordering;
+use std::hash::{Hash, Hasher};
 use std::marker::Model;
 
 /// A list of items, in order. Contracts see it as that list, and so two lists are equal where their
@@ -139,5 +143,15 @@ impl<T: Ord> Ord for Listed<T> {
 
     fn cmp(&self, other: &Listed<T>) -> Ordering {
         self.items.as_slice().cmp(other.items.as_slice())
+    }
+}
+
+impl<T: Hash> Hash for Listed<T> {
+    ghost hash_input = { fed.slice T.hash_input };
+
+    ghost respects_eq = { (items_Alike (record { fed = T.respects_eq })).fed };
+
+    fn hash<H: Hasher>(&self, state: &mut H) {
+        self.items.as_slice().hash(state);
     }
 }

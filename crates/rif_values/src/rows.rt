@@ -1,30 +1,15 @@
-//! Rows with more variables, and with fewer.
-ghost use Rattle.std.specs.Prelude.{◌≡◌, ◌≤◌, ◌++◌, ◌∷◌, ◌==◌, IfOk, OnOk, None, [], if◌then◌else◌, length, take, drop};
+//! The pairs of a row with one more variable, and without some.
+ghost use Rattle.std.specs.Prelude.{◌≡◌, ◌≤◌, ◌++◌, ◌∷◌, ◌==◌, IfOk, OnOk, [], if◌then◌else◌, length, take, drop};
 ghost use Rattle.std.specs.List.{list_any};
-ghost use Rattle.rif_values.specs.Bindings.{bound, value_at, without_variables};
+ghost use Rattle.rif_values.specs.Bindings.{bound, without_variables};
 ghost use Rattle.rif_values.specs.declared.constant.Const.{Const};
 
-use crate::binding::Binding;
 use crate::constant::Const;
 use crate::listed::Listed;
 use crate::out_of_memory::OutOfMemory;
 use std::alloc::Global;
 
-/// The row with one more variable, at the cost of a copy of the row.
-pub fn with_variable(
-    alloc: Global,
-    row: &Binding,
-    var: u32,
-    constant: &Const,
-) -> Result<Binding, OutOfMemory>
-    requires { value_at row.now var ≡ None }
-    ensures { IfOk result (λ longer. longer ≡ bound row.now var constant.now) }
-{
-    let pairs = pairs_with(alloc, row.pairs(), var, constant)?;
-    Ok(Binding::from_pairs(pairs))
-}
-
-/// The pairs of a row with one more variable, at its place.
+/// The pairs of a row with one more variable, at its place, at the cost of a copy of the row.
 pub fn pairs_with(
     alloc: Global,
     pairs: &[(u32, Const)],
@@ -50,26 +35,19 @@ fn place_of(pairs: &[(u32, Const)], var: u32) -> usize
     place
 }
 
-/// The row without some variables.
-pub fn row_without(alloc: Global, vars: &[u32], row: &Binding) -> Result<Binding, OutOfMemory>
-    ensures { IfOk result (λ shorter. shorter ≡ without_variables vars.now row.now) }
-{
-    let pairs = shorter(alloc, vars, row.pairs())?;
-    Ok(Binding::from_pairs(pairs))
-}
-
-fn shorter(
+/// The pairs of a row without some variables.
+pub fn pairs_without(
     alloc: Global,
     vars: &[u32],
     pairs: &[(u32, Const)],
-) -> Result<Listed<(u32, Const)>, OutOfMemory>
-    ensures { IfOk result (λ shorter. shorter ≡ without_variables vars.now pairs.now) }
+) -> Result<Vec<(u32, Const)>, OutOfMemory>
+    ensures { IfOk result (λ shorter. shorter.items ≡ without_variables vars.now pairs.now) }
 {
     let mut items = Vec::new(alloc);
     for pair in pairs {
         push_kept(&mut items, pair, !has_var(vars, pair.0))?;
     }
-    Ok(Listed::from_vec(items))
+    Ok(items)
 }
 
 // Puts a copy of a pair at the end, where it is kept.

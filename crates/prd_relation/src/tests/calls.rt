@@ -151,7 +151,7 @@ fn found_rows(
 fn start_row(alloc: Global, before: Option<WrittenConst>) -> Result<Binding, OutOfMemory> {
     match before {
         Some(value) => row(alloc, value),
-        None => Ok(Binding::from_pairs(Listed::new(alloc))),
+        None => Binding::new(alloc),
     }
 }
 

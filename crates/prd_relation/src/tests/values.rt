@@ -1,7 +1,7 @@
 //! Values for the tests: written down without memory, and made of what was written. A rule's variables
 //! are places, and where a name stands alone it is that of a local constant.
 use rif_tree::{Action, Decl, Doc, Formula, Level, Rule, Target, Term};
-use rif_values::{Binding, Change, Const, Delta, Fact, Instance, Listed, OutOfMemory, Text};
+use rif_values::{Binding, Change, Const, Delta, Fact, Instance, Listed, OutOfMemory, Shared, Text};
 use session_states::{Act, Batch, Effect, Entry, Item, Turn};
 use sqlite_items::{Boxed, Items};
 use std::alloc::Global;
@@ -110,7 +110,7 @@ impl WrittenFact {
             WrittenFact::Atom(predicate, argument) => {
                 let predicate = local(alloc, predicate)?;
                 let argument = argument.make(alloc)?;
-                Ok(Fact::Atom(predicate, Listed::from_vec(vec![in alloc; argument]?)))
+                Ok(Fact::Atom(predicate, Shared::from_vec(alloc, vec![in alloc; argument]?)?))
             }
             WrittenFact::Frame(object, slot, value) => {
                 let object = object.make(alloc)?;
@@ -317,7 +317,7 @@ pub fn changes(alloc: Global, written: &[WrittenChange]) -> Result<Vec<Change>, 
 /// The binding of variable 0.
 pub fn row(alloc: Global, value: WrittenConst) -> Result<Binding, OutOfMemory> {
     let value = value.make(alloc)?;
-    Ok(Binding::from_pairs(Listed::from_vec(vec![in alloc; (0, value)]?)))
+    Ok(Binding::from_pairs(Shared::from_vec(alloc, vec![in alloc; (0, value)]?)?))
 }
 
 pub fn instance(alloc: Global, rule: u32, value: WrittenConst) -> Result<Instance, OutOfMemory> {

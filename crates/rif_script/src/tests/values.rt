@@ -1,7 +1,7 @@
 //! Values for the tests: written down without memory, and made of what was written.
 use crate::Job;
 use rif_tree::{Doc, Level, Rule};
-use rif_values::{Binding, Change, Const, Delta, Fact, Instance, Listed, OutOfMemory, Text};
+use rif_values::{Binding, Change, Const, Delta, Fact, Instance, Listed, OutOfMemory, Shared, Text};
 use session_states::{Act, Batch, Effect, Item, Turn};
 use sqlite_items::Items;
 use std::alloc::Global;
@@ -55,7 +55,7 @@ impl WrittenFact {
             WrittenFact::Atom(predicate, argument) => {
                 let predicate = predicate.make(alloc)?;
                 let argument = argument.make(alloc)?;
-                Ok(Fact::Atom(predicate, Listed::from_vec(vec![in alloc; argument]?)))
+                Ok(Fact::Atom(predicate, Shared::from_vec(alloc, vec![in alloc; argument]?)?))
             }
             WrittenFact::Frame(object, slot, value) => {
                 Ok(Fact::Frame(object.make(alloc)?, slot.make(alloc)?, value.make(alloc)?))
@@ -182,15 +182,15 @@ fn binding(
 ) -> Result<Binding, OutOfMemory> {
     let first = match first {
         Some(first) => first.make(alloc)?,
-        None => return Ok(Binding::from_pairs(Listed::new(alloc))),
+        None => return Binding::new(alloc),
     };
     match second {
         Some(second) => {
             let second = second.make(alloc)?;
             let pairs = vec![in alloc; (0, first), (1, second)]?;
-            Ok(Binding::from_pairs(Listed::from_vec(pairs)))
+            Ok(Binding::from_pairs(Shared::from_vec(alloc, pairs)?))
         }
-        None => Ok(Binding::from_pairs(Listed::from_vec(vec![in alloc; (0, first)]?))),
+        None => Ok(Binding::from_pairs(Shared::from_vec(alloc, vec![in alloc; (0, first)]?)?)),
     }
 }
 

@@ -1,5 +1,5 @@
 use Rattle.std.proofs.Common.{length}
-use Rattle.rif_values.proofs.OrderLemmas.{fact_order_is}
+use Rattle.rif_values.proofs.CallerLemmas.{fact_order_is}
 use Rattle.rif_facts.proofs.FactsLemmas.{err_within}
 use Rattle.rif_facts.proofs.facts.place_among.Goals as goal
 

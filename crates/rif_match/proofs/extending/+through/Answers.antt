@@ -1,7 +1,7 @@
 use Rattle.std.proofs.Common.{length, ◌==◌, [], ◌∷◌}
 use Rattle.rif_builtins.specs.Extensions.{through}
 use Rattle.rif_match.proofs.ThroughLemmas.{through_or}
-use Rattle.rif_values.proofs.GatheringLemmas.{kept_step}
+use Rattle.rif_values.proofs.CallerLemmas.{kept_step}
 use Rattle.rif_match.proofs.extending.+through.Goals as goal
 
 pub rows_through-returns-in-Or : goal.rows_through-returns-in-Or

@@ -1,5 +1,5 @@
 use Rattle.rif_builtins.specs.Extensions.{match_fact}
-use Rattle.rif_values.proofs.GatheringLemmas.{found_step}
+use Rattle.rif_values.proofs.CallerLemmas.{found_step}
 use Rattle.rif_match.proofs.extending.push_matching.Goals as goal
 
 pub loop-fact-preserved : goal.loop-fact-preserved

@@ -1,6 +1,6 @@
 use Rattle.std.proofs.Common.{[]}
 use Rattle.rif_builtins.specs.Extensions.{equal_row}
-use Rattle.rif_values.proofs.GatheringLemmas.{found_step}
+use Rattle.rif_values.proofs.CallerLemmas.{found_step}
 use Rattle.rif_match.proofs.extending.rows_equating.Goals as goal
 
 pub loop-row-preserved : goal.loop-row-preserved

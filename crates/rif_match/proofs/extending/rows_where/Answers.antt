@@ -1,6 +1,6 @@
 use Rattle.rif_builtins.specs.Extensions.{holds_at}
 use Rattle.rif_builtins.specs.Values.{values_of}
-use Rattle.rif_values.proofs.GatheringLemmas.{kept_step}
+use Rattle.rif_values.proofs.CallerLemmas.{kept_step}
 use Rattle.rif_match.proofs.extending.rows_where.Goals as goal
 
 pub loop-row-preserved : goal.loop-row-preserved

@@ -1,6 +1,6 @@
 use Rattle.std.proofs.Common.{sym}
-use Rattle.rif_values.proofs.OrderLemmas.{total_facts, exact_facts}
-use Rattle.rif_sets.proofs.SetsSteps.{insert_present}
+use Rattle.rif_values.proofs.CallerLemmas.{total_facts, exact_facts}
+use Rattle.rif_sets.proofs.CallerLemmas.{insert_present}
 use Rattle.rif_facts.proofs.facts.Facts.with.Goals as goal
 
 pub returns-in-Ok : goal.returns-in-Ok

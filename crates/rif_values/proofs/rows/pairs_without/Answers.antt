@@ -1,7 +1,7 @@
 use Rattle.std.proofs.Common.{ap, not, ◌==◌}
 use Rattle.std.specs.List.{list_any}
 use Rattle.rif_values.proofs.GatheringLemmas.{kept_step}
-use Rattle.rif_values.proofs.rows.shorter.Goals as goal
+use Rattle.rif_values.proofs.rows.pairs_without.Goals as goal
 
 pub loop-pair-preserved : goal.loop-pair-preserved
 loop-pair-preserved c =

@@ -1,7 +1,7 @@
 use Rattle.std.proofs.Common.{◌≡◌, ◌++◌, drop, map}
 use Rattle.std.specs.Option.{option_map}
 use Rattle.rif_builtins.specs.Values.{value_of, values_of, all_of}
-use Rattle.rif_builtins.proofs.values.+values.Given as goal
+use Rattle.rif_builtins.proofs.valuing.+values.Given as goal
 
 abbrev pub invariant-values_in-loop-term : goal.invariant-values_in-loop-term
 invariant-values_in-loop-term l =

@@ -3,10 +3,11 @@ use Rattle.rif_values.specs.declared.constant.Const.{Const}
 use Rattle.rif_values.specs.Bindings.{IsBinding}
 use Rattle.rif_values.specs.Bindings.{bound}
 use Rattle.rif_values.proofs.BoundLemmas.{binding_bound}
-use Rattle.rif_values.proofs.rows.with_variable.Goals as goal
+use Rattle.rif_values.proofs.binding.Binding.with.Goals as goal
 
 pub from_pairs-requires : goal.from_pairs-requires
 from_pairs-requires c =
     let longer = λ (row : List (ℕ × Const)). bound row c.args.var c.args.constant.now in
-    subst IsBinding (sym (c.in_ok-pairs.ensures ∙ ap longer c.pairs.ensures.pairs))
-    (binding_bound c.args.row.now c.args.var c.args.constant.now c.pairs.ensures.rising c.requires)
+    let is = c.in_ok-shared.ensures ∙ c.into_vec.ensures ∙ c.in_ok-pairs.ensures ∙ ap longer c.pairs.ensures.pairs in
+    subst IsBinding (sym is)
+    (binding_bound c.args.self.now c.args.var c.args.constant.now c.pairs.ensures.rising c.requires)
