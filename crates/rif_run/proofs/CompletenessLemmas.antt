@@ -1,6 +1,7 @@
 -- An input that a command is for isn't refused to it, and one that is refused to it has no other answer.
 use Rattle.std.proofs.Common.{◌≡◌, ◌∙◌, ◌≤◌, ◌<◌, ◌⊎◌, inl, inr, ℕ, List, length, take, drop, Option, Some, IfSome}
-use Rattle.std.proofs.Common.{refl, ap, subst, ⊎_elim, arith}
+use Rattle.std.proofs.Common.{Bool, true, false, nat_le, refl, sym, ap, subst, ⊎_elim, arith}
+use Rattle.std.proofs.lemmas.Bool.Decides.{nat_tests}
 use Rattle.std.proofs.lemmas.List.{take_all, length-take-le}
 use Rattle.rif_refusals.specs.Limits.{most_input_bytes}
 use Rattle.rif_refusals.specs.declared.refusal.Refusal.{Refusal}
@@ -91,8 +92,12 @@ front_refused_by input refusal (inr long) (inl too_long) = inl (too_long.0, long
 front_refused_by input refusal (inr long) (inr (inl broken)) = absurd (omega (arith, long, broken.2.1))
 front_refused_by input refusal (inr long) (inr (inr other)) = absurd (omega (arith, long, other.0.short))
 
+compare : (a b : ℕ) (r : Bool) → nat_le a b ≡ r → (a ≤ b) ⊎ (b < a)
+compare a b true is = inl (grind (arith, nat_tests))
+compare a b false is = inr (grind (arith, nat_tests))
+
 size_of : (input : List ℕ) → (length input ≤ most_input_bytes) ⊎ (most_input_bytes < length input)
-size_of input = le_or_lt (length input) most_input_bytes
+size_of input = compare (length input) most_input_bytes (nat_le (length input) most_input_bytes) refl
 
 front_refused : (command : Command) (input : List ℕ) (refusal : Refusal) → IsRefusedTo command input refusal →
     IsRefusedTo command (take most_bytes_read input) refusal

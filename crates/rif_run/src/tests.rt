@@ -1,3 +1,5 @@
+mod noted_ends;
+
 use crate::status::Status;
 use crate::top::rif_run;
 use rif_script::{MemSink, MemSource, Source};

@@ -1,5 +1,4 @@
 //! Jobs with what they are read as, small runs with their whole text, and how scripts are cut.
-mod checks;
 mod ends;
 mod job_limits;
 mod outcomes;
@@ -10,7 +9,6 @@ mod simple_jobs;
 mod values;
 
 use crate::batches_of;
-use checks::has_its_clients;
 use rif_values::{Listed, OutOfMemory};
 use runs::{discount, disposed, invoice, levels_and_items, no_budget, resting, same_value};
 use session_states::Item;
@@ -70,7 +68,6 @@ fn is_cut(
     left: &[(u32, u64)],
 ) -> Result<(), Fail> {
     let job = job(alloc, &[], &[], items)?;
-    assert!(rt; has_its_clients(&job));
     let (batches, rest) = batches_of(alloc, &job)?;
     let mut counts = Vec::new(alloc);
     for batch in &batches {

@@ -1,6 +1,4 @@
 //! What a job leads to, as text.
-ghost use Rattle.rif_script.specs.Cutting.{HasItsClients};
-
 use crate::lines::push_entry_lines;
 use crate::{Job, batches_of, read_job, write_refusal};
 use rif_refusals::Fault;
@@ -20,9 +18,7 @@ pub fn outcome(alloc: Global, bytes: &[u8]) -> Result<Vec<u8>, OutOfMemory> {
     Ok(out)
 }
 
-fn push_items(alloc: Global, out: &mut Vec<u8>, job: &Job) -> Result<(), OutOfMemory>
-    requires { HasItsClients job.now }
-{
+fn push_items(alloc: Global, out: &mut Vec<u8>, job: &Job) -> Result<(), OutOfMemory> {
     let (batches, left) = batches_of(alloc, job)?;
     for batch in &batches {
         push_entry_lines(out, b"in", job.names.as_slice(), batch.entries())?;

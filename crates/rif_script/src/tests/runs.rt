@@ -1,5 +1,4 @@
 //! Runs by hand, with their texts.
-use super::checks::has_its_clients;
 use super::values::WrittenConst::{Bool, Fresh, Int, Iri, Local, Str};
 use super::values::WrittenFact::{Atom, Frame, Member};
 use super::values::WrittenItem::{
@@ -28,7 +27,6 @@ struct Run<'a> {
 impl Run<'_> {
     fn test(self, rt: &impl Abort, alloc: Global) -> Result<(), Fail> {
         let job = job(alloc, self.names, self.levels, items(alloc, self.items)?)?;
-        assert!(rt; has_its_clients(&job));
         let (batches, left) = batches_of(alloc, &job)?;
         let turns = turns_of(alloc, batches, self.shown)?;
         let mut out = vec![in alloc; b'#']?;

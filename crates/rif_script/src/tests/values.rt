@@ -1,7 +1,9 @@
 //! Values for the tests: written down without memory, and made of what was written.
 use crate::Job;
 use rif_tree::{Doc, Level, Rule};
-use rif_values::{Binding, Change, Const, Delta, Fact, Instance, Listed, OutOfMemory, Shared, Text};
+use rif_values::{
+    Binding, Change, Const, Delta, Fact, Instance, Listed, OutOfMemory, Shared, Text,
+};
 use session_states::{Act, Batch, Effect, Item, Turn};
 use sqlite_items::Items;
 use std::alloc::Global;
@@ -55,7 +57,10 @@ impl WrittenFact {
             WrittenFact::Atom(predicate, argument) => {
                 let predicate = predicate.make(alloc)?;
                 let argument = argument.make(alloc)?;
-                Ok(Fact::Atom(predicate, Shared::from_vec(alloc, vec![in alloc; argument]?)?))
+                Ok(Fact::Atom(
+                    predicate,
+                    Shared::from_vec(alloc, vec![in alloc; argument]?)?,
+                ))
             }
             WrittenFact::Frame(object, slot, value) => {
                 Ok(Fact::Frame(object.make(alloc)?, slot.make(alloc)?, value.make(alloc)?))
