@@ -2,24 +2,24 @@
 use Rattle.std.proofs.Common.{◌≡◌, ◌∙◌, ℕ, List, [], length, Option, Some, None, ap, sym, subst}
 use Rattle.rif_tree.specs.declared.rule.Doc.{Doc}
 use Rattle.rif_lex.specs.declared.token.Token.{Token}
-use Rattle.prd_reader.specs.declared.cause.Cause.{Cause}
-use Rattle.prd_reader.specs.declared.leaf.Leaf.{Leaf}
-use Rattle.prd_reader.specs.declared.recognizing.Outcome.{Outcome}
-use Rattle.prd_reader.specs.declared.recognizing.Outcome.TheVariants.{Document}
-use Rattle.prd_reader.specs.Building.{Builds}
-use Rattle.prd_reader.specs.Documents.{IsRead, IsRefused, column_of, line_of}
-use Rattle.prd_reader.specs.Leaves.{leaves_of, prefixes_from}
-use Rattle.prd_reader.specs.Limits.{KeepsLimits, KeepsPlaces}
-use Rattle.prd_reader.specs.Prefixes.{Prefixes}
-use Rattle.prd_reader.specs.Progress.{at_start, names_read}
-use Rattle.prd_reader.specs.Recognizing.{LeadsTo}
-use Rattle.prd_reader.specs.Refusals.{IsClear, IsRefusedAt, refusal_at}
-use Rattle.prd_reader.specs.Trees.{DocumentTree, spell_document}
-use Rattle.prd_reader.specs.Values.{document_value}
-use Rattle.prd_reader.proofs.CountingDocumentLemmas.{counts}
-use Rattle.prd_reader.proofs.OutcomeLemmas.{count_of_leaves}
-use Rattle.prd_reader.proofs.PlacingRuleLemmas.{places}
-use Rattle.prd_reader.proofs.PrefixLemmas.{declared}
+use Rattle.prd_grammar.specs.declared.cause.Cause.{Cause}
+use Rattle.prd_grammar.specs.declared.leaf.Leaf.{Leaf}
+use Rattle.prd_recognition.specs.declared.recognizing.Outcome.{Outcome}
+use Rattle.prd_recognition.specs.declared.recognizing.Outcome.TheVariants.{Document}
+use Rattle.prd_building.specs.Building.{Builds}
+use Rattle.prd_leaves.specs.Documents.{IsRead, IsRefused, column_of, line_of}
+use Rattle.prd_leaves.specs.Leaves.{leaves_of, prefixes_from}
+use Rattle.prd_limits.specs.Limits.{KeepsLimits, KeepsPlaces}
+use Rattle.prd_grammar.specs.Prefixes.{Prefixes}
+use Rattle.prd_grammar.specs.Progress.{at_start, names_read}
+use Rattle.prd_recognition.specs.Recognizing.{LeadsTo}
+use Rattle.prd_grammar.specs.Refusals.{IsClear, IsRefusedAt, refusal_at}
+use Rattle.prd_grammar.specs.Trees.{DocumentTree, spell_document}
+use Rattle.prd_grammar.specs.Values.{document_value}
+use Rattle.prd_limits.proofs.CallerLemmas.{counts}
+use Rattle.prd_leaves.proofs.CallerLemmas.{count_of_leaves}
+use Rattle.prd_limits.proofs.CallerLemmas.{places}
+use Rattle.prd_leaves.proofs.CallerLemmas.{declared}
 
 -- what is built of leaves that are recognised is the value of a tree that they spell
 pub built_of : (ls : List Leaf) (names : List (List (List ℕ))) (built : Option Doc) → LeadsTo ls (Document names)

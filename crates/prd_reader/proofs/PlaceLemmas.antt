@@ -2,7 +2,7 @@
 use Rattle.std.proofs.Common.{◌≡◌, ◌<◌, ◌≤◌, ℕ, zero, suc, List, [], ◌∷◌, length, get_or, refl, arith}
 use Rattle.rif_lex.specs.declared.token.Token.{Token}
 use Rattle.rif_lex.specs.Places.{first_place, place_past}
-use Rattle.prd_reader.specs.Documents.{column_of, line_of}
+use Rattle.prd_leaves.specs.Documents.{column_of, line_of}
 
 pub line_of_token : (bytes : List ℕ) (ts : List Token) (i : ℕ) (d : Token) → i < length ts →
     (get_or ts i d).line ≡ line_of bytes ts i

@@ -10,13 +10,13 @@ use Rattle.std.specs.List.{list_any}
 use Rattle.rif_values.specs.declared.constant.Const.{Const}
 use Rattle.rif_values.specs.declared.fact.Fact.{Fact}
 use Rattle.rif_values.specs.declared.fact.Fact.TheVariants.{Atom, Frame, Member}
-use Rattle.prd_reader.specs.declared.leaf.Literal.TheVariants.{OfNoType}
-use Rattle.prd_reader.specs.declared.leaf.Leaf.{Leaf}
-use Rattle.prd_reader.specs.declared.leaf.Leaf.TheVariants.{Int, Typed}
-use Rattle.prd_reader.specs.Refusals.{is_refused_type, is_undeclared, is_wide}
-use Rattle.prd_reader.specs.Trees.{ConstTree, spell_const, NameTree, TermTrees, no_terms, terms, constant, last_pair}
-use Rattle.prd_reader.specs.Trees.{TargetTree, target_member, target_frame, target_atom, spell_target}
-use Rattle.prd_reader.specs.Values.{const_value, name_value}
+use Rattle.prd_grammar.specs.declared.leaf.Literal.TheVariants.{OfNoType}
+use Rattle.prd_grammar.specs.declared.leaf.Leaf.{Leaf}
+use Rattle.prd_grammar.specs.declared.leaf.Leaf.TheVariants.{Int, Typed}
+use Rattle.prd_grammar.specs.Refusals.{is_refused_type, is_undeclared, is_wide}
+use Rattle.prd_grammar.specs.Trees.{ConstTree, spell_const, NameTree, TermTrees, no_terms, terms, constant, last_pair}
+use Rattle.prd_grammar.specs.Trees.{TargetTree, target_member, target_frame, target_atom, spell_target}
+use Rattle.prd_grammar.specs.Values.{const_value, name_value}
 
 -- the string of a typed literal whose type is refused itself
 abbrev pub is_of_no_type : Leaf → Bool

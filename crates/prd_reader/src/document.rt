@@ -1,13 +1,11 @@
 ghost use Rattle.std.specs.Prelude.{◌≡◌, IfErr, IfOk, Ok};
 ghost use Rattle.rif_lex.specs.Lexing.{lexed};
-ghost use Rattle.prd_reader.specs.Documents.{IsDocumentOf, IsRead, RefusesDocument, column_of, line_of};
-ghost use Rattle.prd_reader.specs.Limits.{KeepsLimits, KeepsPlaces};
+ghost use Rattle.prd_leaves.specs.Documents.{IsDocumentOf, IsRead, RefusesDocument, column_of, line_of};
+ghost use Rattle.prd_limits.specs.Limits.{KeepsLimits, KeepsPlaces};
 
-use crate::building::build;
-use crate::document_leaves::leaves;
-use crate::prefixes::Prefixes;
-use crate::recognizing::{Outcome, recognize};
-use crate::refusing::refusal_at;
+use prd_building::build;
+use prd_leaves::{Prefixes, leaves};
+use prd_recognition::{Outcome, recognize, refusal_at};
 use rif_lex::{Token, Tokens, end_of};
 use rif_refusals::Fault;
 use rif_tree::Doc;

@@ -3,6 +3,7 @@
 mod leaves;
 mod limits;
 mod prefixes;
+mod recognizing;
 mod refusals;
 mod written;
 

@@ -6,7 +6,8 @@ use Rattle.std.proofs.lemmas.Fmt.{decimal_by_steps_wide, decimal_digit}
 use Rattle.std.specs.Fmt.{signed_decimal}
 use Rattle.std.specs.List.{flat_map, AllByRecursion}
 use Rattle.rif_values.specs.Writing.{escaped, truth_text, const_text}
-use Rattle.rif_values.specs.declared.constant.Const.TheVariants.{Str as StrConst, Iri as IriConst, Local as LocalConst}
+use Rattle.rif_values.specs.declared.constant.Const.TheVariants.{Str as StrConst, Iri as IriConst}
+use Rattle.rif_values.specs.declared.constant.Const.TheVariants.{Local as LocalConst}
 use Rattle.rif_lex.specs.declared.class.Class.TheVariants.{Digit}
 use Rattle.rif_lex.specs.declared.token.Kind.TheVariants.{Word, Local, Int, Str, Iri}
 use Rattle.rif_lex.specs.declared.piece.Piece.TheVariants.{Lexeme}

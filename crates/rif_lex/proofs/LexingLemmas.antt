@@ -7,7 +7,7 @@ use Rattle.std.proofs.lemmas.List.{drop-drop, length-drop, take_rest}
 use Rattle.std.specs.Str.{is_utf8}
 use Rattle.std.specs.Str.Lossy.{utf8_valid_len}
 use Rattle.std.specs.declared.result.Result.{Result}
-use Rattle.rif_refusals.specs.declared.limits.TheConstants.{MOST_INPUT_BYTES}
+use Rattle.rif_refusals.specs.Limits.{most_input_bytes}
 use Rattle.rif_refusals.specs.declared.refusal.Refusal.{Refusal}
 use Rattle.rif_refusals.specs.declared.refusal.Refusal.TheVariants.{NotUtf8, BadToken}
 use Rattle.rif_lex.specs.declared.piece.Piece.TheVariants.{Unreadable, Blank, Lexeme}
@@ -90,15 +90,15 @@ within_text n at text fits within =
     omega arith
 
 -- an input that isn't too long, and is UTF-8, leads to what its text leads to
-pub lexed_text : (bytes : List ℕ) → length bytes ≤ MOST_INPUT_BYTES → IsUtf8 bytes → lexed bytes ≡ tokens_of bytes
+pub lexed_text : (bytes : List ℕ) → length bytes ≤ most_input_bytes → IsUtf8 bytes → lexed bytes ≡ tokens_of bytes
 lexed_text bytes short utf8 =
-    rw (le-ltb MOST_INPUT_BYTES (length bytes) short, is_utf8-from_IsUtf8 bytes utf8) refl
+    rw (le-ltb most_input_bytes (length bytes) short, is_utf8-from_IsUtf8 bytes utf8) refl
 
 -- bytes that aren't UTF-8
-pub lexed_broken : (bytes : List ℕ) → length bytes ≤ MOST_INPUT_BYTES → ¬ (IsUtf8 bytes) →
+pub lexed_broken : (bytes : List ℕ) → length bytes ≤ most_input_bytes → ¬ (IsUtf8 bytes) →
     lexed bytes ≡ Err (NotUtf8 (utf8_valid_len bytes))
 lexed_broken bytes short broken =
-    let long = le-ltb MOST_INPUT_BYTES (length bytes) short in
+    let long = le-ltb most_input_bytes (length bytes) short in
     elim (is_utf8 bytes) as (λ v. is_utf8 bytes ≡ v → lexed bytes ≡ Err (NotUtf8 (utf8_valid_len bytes))) [
       | true ↦ λ is. absurd (broken (IsUtf8-from_is_utf8 bytes is))
       | false ↦ λ is. rw (long, is) refl
@@ -106,7 +106,7 @@ lexed_broken bytes short broken =
 
 pub inputs_are_texts : InputsAreTexts
 inputs_are_texts bytes ts = (
-  λ e. by_test (nat_lt MOST_INPUT_BYTES (length bytes)) _ _ _ e
+  λ e. by_test (nat_lt most_input_bytes (length bytes)) _ _ _ e
       (λ _ f. cc)
       (λ short f. by_test (is_utf8 bytes) _ _ _ f
       (λ utf8 g. record { short = ltb-false _ _ short; utf8 = IsUtf8-from_is_utf8 bytes utf8; tokens = g })

@@ -15,3 +15,4 @@ pub mod SpanLemmas
 pub mod ConstantLemmas
 pub mod RefusalLemmas
 pub mod TextLemmas
+pub mod CallerLemmas

@@ -7,7 +7,7 @@ use Rattle.std.proofs.lemmas.Str.{is_utf8-from_IsUtf8, IsUtf8-from_is_utf8, IsUt
 use Rattle.std.proofs.Math.Logic.{⊎_elim}
 use Rattle.std.specs.Str.{is_utf8, IsValidUpTo}
 use Rattle.std.specs.Str.Lossy.{valid_len_up_to, utf8_valid_len}
-use Rattle.rif_refusals.specs.declared.limits.TheConstants.{MOST_INPUT_BYTES}
+use Rattle.rif_refusals.specs.Limits.{most_input_bytes}
 use Rattle.rif_refusals.specs.declared.refusal.Refusal.{Refusal}
 use Rattle.rif_refusals.specs.declared.refusal.Refusal.TheVariants.{InputTooLong, NotUtf8, BadToken}
 use Rattle.rif_lex.specs.Lexing.{tokens_of, lexed, IsRefused, InputsAreRefused}
@@ -69,7 +69,7 @@ not_utf8 : (bytes : List ℕ) (n : ℕ) → IsValidUpTo bytes n → ¬ (IsUtf8 b
 not_utf8 bytes n valid utf8 =
     valid.longest (length bytes) valid.short (subst IsUtf8 (sym (take_all (length bytes) bytes (omega arith))) utf8)
 
-text_refused : (bytes : List ℕ) (refusal : Refusal) → length bytes ≤ MOST_INPUT_BYTES → IsUtf8 bytes →
+text_refused : (bytes : List ℕ) (refusal : Refusal) → length bytes ≤ most_input_bytes → IsUtf8 bytes →
     tokens_of bytes ≡ Err refusal → IsRefused bytes refusal
 text_refused bytes refusal short utf8 e =
     let is = (first_of_refusal bytes refusal e).is in
@@ -77,7 +77,7 @@ text_refused bytes refusal short utf8 e =
 
 refused_of : (bytes : List ℕ) (refusal : Refusal) → lexed bytes ≡ Err refusal → IsRefused bytes refusal
 refused_of bytes refusal e =
-    by_test (nat_lt MOST_INPUT_BYTES (length bytes)) _ _ _ e
+    by_test (nat_lt most_input_bytes (length bytes)) _ _ _ e
     (λ long f. let same : InputTooLong ≡ refusal = cc in subst (IsRefused bytes) same (ltb-true _ _ long))
     (λ short f. by_test (is_utf8 bytes) _ _ _ f
     (λ utf8 g. text_refused bytes refusal (ltb-false _ _ short) (IsUtf8-from_is_utf8 bytes utf8) g)
@@ -87,7 +87,7 @@ refused_of bytes refusal e =
     subst (IsRefused bytes) same (ltb-false _ _ short, valid_up_to bytes broken)))
 
 refused_by : (bytes : List ℕ) (refusal : Refusal) → IsRefused bytes refusal → lexed bytes ≡ Err refusal
-refused_by bytes InputTooLong long = rw (lt-ltb MOST_INPUT_BYTES (length bytes) long) refl
+refused_by bytes InputTooLong long = rw (lt-ltb most_input_bytes (length bytes) long) refl
 refused_by bytes (NotUtf8 at) is =
     lexed_broken bytes is.0 (not_utf8 bytes at is.1)
     ∙ ap (λ (n : ℕ). Err (NotUtf8 n)) (utf8_valid_len-IsValidUpTo bytes at is.1)

@@ -2,7 +2,9 @@
 -- Source: the project's own (docs/FORMATS.md, "Tokens").
 use Rattle.std.specs.Prelude.{ℕ, ◌==◌, ◌&&◌, ◌||◌, nat_le, not, Bool, true, false, if◌then◌else◌, List, [], ◌∷◌}
 use Rattle.rif_lex.specs.declared.class.Class.{Class}
-use Rattle.rif_lex.specs.declared.class.Class.TheVariants.{White, Letter, Zero, Digit, Underscore, Minus, Question, Quote, Less, Open, Close, OpenSquare, CloseSquare, Equal, Hash, Caret, Other}
+use Rattle.rif_lex.specs.declared.class.Class.TheVariants.{White, Letter, Zero, Digit, Underscore, Minus, Question}
+use Rattle.rif_lex.specs.declared.class.Class.TheVariants.{Quote, Less, Open, Close, OpenSquare, CloseSquare, Equal}
+use Rattle.rif_lex.specs.declared.class.Class.TheVariants.{Hash, Caret, Other}
 
 abbrev pub is_between : ℕ → ℕ → ℕ → Bool
 is_between low high b = nat_le low b && nat_le b high

@@ -4,7 +4,8 @@ use Rattle.std.specs.Prelude.{◌≡◌, ◌<◌, ◌^◌, ℕ, ℤ, Bool, true,
 use lib.Signed.{mag}
 use Rattle.std.specs.List.{AllByRecursion}
 use Rattle.rif_values.specs.declared.constant.Const.{Const}
-use Rattle.rif_values.specs.declared.constant.Const.TheVariants.{Int as IntConst, Bool as BoolConst, Str as StrConst, Iri as IriConst, Local as LocalConst}
+use Rattle.rif_values.specs.declared.constant.Const.TheVariants.{Int as IntConst, Bool as BoolConst, Str as StrConst}
+use Rattle.rif_values.specs.declared.constant.Const.TheVariants.{Iri as IriConst, Local as LocalConst}
 use Rattle.rif_values.specs.Writing.{const_text}
 use Rattle.rif_lex.specs.declared.token.Kind.{Kind}
 use Rattle.rif_lex.specs.declared.token.Kind.TheVariants.{Word, Local, Int, Str, Iri}

@@ -41,7 +41,8 @@ pub record IsCut (text : List ℕ) (ts : List Token) : Type 0 where
 abbrev pub TokensAreCut : Type 0
 TokensAreCut = (text : List ℕ) (ts : List Token) → (tokens_of text ≡ Ok ts) ↔ IsCut text ts
 
--- the refusal stands at the first place that can't be read: all before it is cut into pieces, and no piece begins there
+-- the refusal stands at the first place that can't be read: all before it is cut into pieces, and no piece begins
+-- there
 pub record IsFirstUnreadable (text : List ℕ) (refusal : Refusal) : Type 0 where
   pub at : ℕ
   pub within : at < length text

@@ -1,13 +1,17 @@
 -- The forms of tokens, as the table of tokens has them, each by what a text is put together from; and which of them
 -- stands at the front of a text: the longest.
 -- Source: the project's own (docs/FORMATS.md, "Tokens").
-use Rattle.std.specs.Prelude.{◌≡◌, ◌⊎◌, ◌↔◌, ℕ, ◌+◌, ◌≤◌, ◌<◌, ◌==◌, ◌||◌, not, Bool, true, false, List, [], ◌∷◌, ◌++◌, length, take, drop, codes}
+use Rattle.std.specs.Prelude.{◌≡◌, ◌⊎◌, ◌↔◌, ℕ, ◌+◌, ◌≤◌, ◌<◌, ◌==◌, ◌||◌, not, Bool, true, false, List, [], ◌∷◌}
+use Rattle.std.specs.Prelude.{◌++◌, length, take, drop, codes}
 use Rattle.std.specs.List.{flat_map, AllByRecursion}
 use Rattle.rif_lex.specs.declared.class.Class.TheVariants.{White, Letter}
 use Rattle.rif_lex.specs.declared.token.Kind.{Kind}
-use Rattle.rif_lex.specs.declared.token.Kind.TheVariants.{Word, Curie, Local, Var, Int, Str, Iri, Open, Close, OpenSquare, CloseSquare, Equal, Hash, HashHash, Arrow, Carets}
+use Rattle.rif_lex.specs.declared.token.Kind.TheVariants.{Word, Curie, Local, Var, Int, Str, Iri, Open, Close}
+use Rattle.rif_lex.specs.declared.token.Kind.TheVariants.{OpenSquare, CloseSquare, Equal, Hash, HashHash, Arrow}
+use Rattle.rif_lex.specs.declared.token.Kind.TheVariants.{Carets}
 use Rattle.rif_lex.specs.declared.piece.Piece.TheVariants.{Blank, Lexeme}
-use Rattle.rif_lex.specs.Characters.{class_at, begins, begins_two, begins_name, is_name, is_digit, is_first_digit, is_escape, is_inside_iri}
+use Rattle.rif_lex.specs.Characters.{class_at, begins, begins_two, begins_name, is_name, is_digit, is_first_digit}
+use Rattle.rif_lex.specs.Characters.{is_escape, is_inside_iri}
 use Rattle.rif_lex.specs.Pieces.{piece_at}
 
 -- all bytes are of name characters, where the rest follows

@@ -1,10 +1,11 @@
 -- What an input leads to: all its tokens, in order and to its end, or the first refusal that stands.
 -- Source: the project's own (docs/FORMATS.md, "Tokens").
-use Rattle.std.specs.Prelude.{length, ◌≡◌, ◌≤◌, ◌<◌, ◌↔◌, IsUtf8, ℕ, ◌+◌, pred, nat_lt, if◌then◌else◌, List, [], ◌∷◌, ◌++◌, suc, zero, Ok, Err}
+use Rattle.std.specs.Prelude.{length, ◌≡◌, ◌≤◌, ◌<◌, ◌↔◌, IsUtf8, ℕ, ◌+◌, pred, nat_lt, if◌then◌else◌, List, [], ◌∷◌}
+use Rattle.std.specs.Prelude.{◌++◌, suc, zero, Ok, Err}
 use Rattle.std.specs.Str.{is_utf8, IsValidUpTo}
 use Rattle.std.specs.Str.Lossy.{utf8_valid_len}
 use Rattle.std.specs.declared.result.Result.{Result}
-use Rattle.rif_refusals.specs.declared.limits.TheConstants.{MOST_INPUT_BYTES}
+use Rattle.rif_refusals.specs.Limits.{most_input_bytes}
 use Rattle.rif_refusals.specs.declared.refusal.Refusal.{Refusal}
 use Rattle.rif_refusals.specs.declared.refusal.Refusal.TheVariants.{InputTooLong, NotUtf8, BadToken}
 use Rattle.rif_refusals.specs.declared.fault.Fault.{Fault}
@@ -42,7 +43,7 @@ tokens_of text = tokens_from 0 first_place text
 -- the tokens of an input, or the first refusal that stands
 abbrev pub lexed : List ℕ → Result (List Token) Refusal
 lexed bytes =
-    if nat_lt MOST_INPUT_BYTES (length bytes) then Err InputTooLong
+    if nat_lt most_input_bytes (length bytes) then Err InputTooLong
     else (if is_utf8 bytes then tokens_of bytes else Err (NotUtf8 (utf8_valid_len bytes)))
 
 -- a call answers what is given, unless memory ran out
@@ -59,7 +60,7 @@ AnswersInto (Err OutOfMemory) now given = Unit {0}
 
 -- Law: an input has tokens exactly where it isn't too long, is UTF-8, and its text has these tokens.
 pub record IsInput (bytes : List ℕ) (ts : List Token) : Type 0 where
-  pub short : length bytes ≤ MOST_INPUT_BYTES
+  pub short : length bytes ≤ most_input_bytes
   pub utf8 : IsUtf8 bytes
   pub tokens : tokens_of bytes ≡ Ok ts
 
@@ -69,10 +70,10 @@ InputsAreTexts = (bytes : List ℕ) (ts : List Token) → (lexed bytes ≡ Ok ts
 -- an input has the refusal: it is too long; else its longest front of UTF-8 ends at the byte; else its text has the
 -- refusal
 abbrev pub IsRefused : List ℕ → Refusal → Type 0
-IsRefused bytes InputTooLong = MOST_INPUT_BYTES < length bytes
-IsRefused bytes (NotUtf8 at) = (length bytes ≤ MOST_INPUT_BYTES) × IsValidUpTo bytes at
+IsRefused bytes InputTooLong = most_input_bytes < length bytes
+IsRefused bytes (NotUtf8 at) = (length bytes ≤ most_input_bytes) × IsValidUpTo bytes at
 IsRefused bytes (BadToken line col) =
-    (length bytes ≤ MOST_INPUT_BYTES) × IsUtf8 bytes × (tokens_of bytes ≡ Err (BadToken line col))
+    (length bytes ≤ most_input_bytes) × IsUtf8 bytes × (tokens_of bytes ≡ Err (BadToken line col))
 IsRefused bytes _ = ⊥
 
 -- Law: an input leads to a refusal exactly where it has it, and so to no other than these three.

@@ -3,12 +3,18 @@
 use Rattle.std.specs.Prelude.{ℕ, ◌+◌, ◌==◌, ◌||◌, if◌then◌else◌, List, [], ◌∷◌, suc, Some, None, drop}
 use Rattle.std.specs.declared.option.Option.{Option}
 use Rattle.rif_lex.specs.declared.class.Class.{Class}
-use Rattle.rif_lex.specs.declared.class.Class.TheVariants.{White, Letter, Zero, Digit, Underscore, Minus, Question, Quote, Less, Open, Close, OpenSquare, CloseSquare, Equal, Hash, Caret, Other}
+use Rattle.rif_lex.specs.declared.class.Class.TheVariants.{White, Letter, Zero, Digit, Underscore, Minus, Question}
+use Rattle.rif_lex.specs.declared.class.Class.TheVariants.{Quote, Less, Open, Close, OpenSquare, CloseSquare, Equal}
+use Rattle.rif_lex.specs.declared.class.Class.TheVariants.{Hash, Caret, Other}
 use Rattle.rif_lex.specs.declared.token.Kind.{Kind}
-use Rattle.rif_lex.specs.declared.token.Kind.TheVariants.{Word, Curie, Local, Var, Int, Str, Iri, Open as OpenToken, Close as CloseToken, OpenSquare as OpenSquareToken, CloseSquare as CloseSquareToken, Equal as EqualToken, Hash as HashToken, HashHash, Arrow, Carets}
+use Rattle.rif_lex.specs.declared.token.Kind.TheVariants.{Word, Curie, Local, Var, Int, Str, Iri, Open as OpenToken}
+use Rattle.rif_lex.specs.declared.token.Kind.TheVariants.{Close as CloseToken, OpenSquare as OpenSquareToken}
+use Rattle.rif_lex.specs.declared.token.Kind.TheVariants.{CloseSquare as CloseSquareToken, Equal as EqualToken}
+use Rattle.rif_lex.specs.declared.token.Kind.TheVariants.{Hash as HashToken, HashHash, Arrow, Carets}
 use Rattle.rif_lex.specs.declared.piece.Piece.{Piece}
 use Rattle.rif_lex.specs.declared.piece.Piece.TheVariants.{Unreadable, Blank, Lexeme}
-use Rattle.rif_lex.specs.Characters.{class_at, begins, begins_two, begins_name, begins_number, is_name, is_digit, is_escape, is_inside_iri}
+use Rattle.rif_lex.specs.Characters.{class_at, begins, begins_two, begins_name, begins_number, is_name, is_digit}
+use Rattle.rif_lex.specs.Characters.{is_escape, is_inside_iri}
 
 -- how many bytes of name characters the text begins with
 abbrev pub name_length : List ℕ → ℕ
@@ -26,7 +32,8 @@ longer n None = None
 longer n (Some m) = Some (n + m)
 
 abbrev mutual
-  -- behind an opening `"`: the characters and escapes of the string with its closing `"`, if one closes it in its line
+  -- behind an opening `"`: the characters and escapes of the string with its closing `"`, if one closes it in its
+  -- line
   pub string_length : List ℕ → Option ℕ
   string_length [] = None
   string_length (b ∷ bs) =

@@ -28,7 +28,8 @@ PutsTokens (Err (Refused refusal)) before now given = given ≡ Err refusal
 PutsTokens (Err OutOfMemory) before now given = Unit {0}
 
 -- a call tells that an input leads to what its text leads to, or answers the input's refusal
-abbrev pub IsTextFor : {T : Type 0} → Result T Fault → Result (List Token) Refusal → Result (List Token) Refusal → Type 0
+abbrev pub IsTextFor : {T : Type 0} → Result T Fault → Result (List Token) Refusal → Result (List Token) Refusal →
+    Type 0
 IsTextFor (Ok done) input text = input ≡ text
 IsTextFor (Err (Refused refusal)) input text = input ≡ Err refusal
 IsTextFor (Err OutOfMemory) input text = Unit {0}

@@ -8,7 +8,7 @@ use Rattle.std.specs.Prelude.{◌≡◌, ℕ, List}
 use Rattle.rif_refusals.specs.declared.fault.Fault.{Fault}
 use Rattle.rif_refusals.specs.declared.fault.Fault.TheVariants.{Refused as RefusedFault, OutOfMemory as OutOfMemoryFault}
 use Rattle.rif_refusals.specs.declared.refusal.Refusal.{Refusal}
-use Rattle.prd_reader.specs.Canonical.{canonical_text}
+use Rattle.prd_writing.specs.Canonical.{canonical_text}
 use Rattle.rif_script.specs.declared.job.Job.{Job}
 use Rattle.rif_script.specs.Jobs.{IsJob, IsRefused}
 use Rattle.rif_script.specs.RefusalLine.{refusal_line}

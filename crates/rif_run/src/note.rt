@@ -1,4 +1,4 @@
-use prd_reader::{explain, explain_line};
+use prd_explain::{explain, explain_line};
 use rif_lex::tokens;
 use rif_refusals::{Fault, Refusal};
 use rif_script::{doc_part, read_job};

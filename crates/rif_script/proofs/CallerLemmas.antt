@@ -1,7 +1,7 @@
 -- What the crates above may cite: the laws of jobs.
-use Rattle.prd_reader.specs.Documents.{OneOutcome as OneDocumentOutcome}
-use Rattle.prd_reader.proofs.BuildingLaws.{one_document}
-use Rattle.prd_reader.proofs.OutcomeLemmas.{one_refusal, not_both}
+use Rattle.prd_leaves.specs.Documents.{OneOutcome as OneDocumentOutcome}
+use Rattle.prd_reader.proofs.CallerLemmas.{one_document}
+use Rattle.prd_leaves.proofs.CallerLemmas.{one_refusal, not_both}
 use Rattle.rif_script.specs.Jobs.{OneOutcome}
 use Rattle.rif_script.proofs.OutcomeLemmas.{one_outcome}
 

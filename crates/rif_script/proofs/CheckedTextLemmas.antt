@@ -16,16 +16,12 @@ use Rattle.rif_lex.specs.Pieces.{piece_at}
 use Rattle.rif_lex.specs.Places.{line_feeds}
 use Rattle.rif_lex.specs.Spelling.{AreSeparate, Gap, IsToken, Spelled, Written, gap_text, joined, line_feed, space}
 use Rattle.rif_lex.specs.Spelling.{spelled_text, written}
-use Rattle.rif_lex.proofs.LexingLemmas.{inputs_are_texts}
-use Rattle.rif_lex.proofs.PlaceLemmas.{line_feeds_first}
-use Rattle.rif_lex.proofs.RefusalLemmas.{inputs_are_refused}
-use Rattle.rif_lex.proofs.SpanLemmas.{slices_are_tokens}
-use Rattle.rif_lex.proofs.SpellingLemmas.{spelled_is_lexed}
-use Rattle.prd_reader.specs.Canonical.{canonical_spelling, canonical_text}
-use Rattle.prd_reader.specs.Documents.{IsRead, IsRefused as IsDocumentRefused}
-use Rattle.prd_reader.specs.ReadBack.{IsReadBack, IsTooDeep}
-use Rattle.prd_reader.proofs.ReadBackLemmas.{canonical_is_read_back}
-use Rattle.prd_reader.proofs.SeparateLaws.{canonical_is_separate}
+use Rattle.rif_lex.proofs.CallerLemmas.{inputs_are_texts, line_feeds_first, inputs_are_refused, slices_are_tokens}
+use Rattle.rif_lex.proofs.CallerLemmas.{spelled_is_lexed}
+use Rattle.prd_writing.specs.Canonical.{canonical_spelling, canonical_text}
+use Rattle.prd_leaves.specs.Documents.{IsRead, IsRefused as IsDocumentRefused}
+use Rattle.prd_canonical.specs.ReadBack.{IsReadBack, IsTooDeep}
+use Rattle.prd_canonical.proofs.CallerLemmas.{canonical_is_read_back, canonical_is_separate}
 use Rattle.rif_script.specs.declared.job.Job.{Job}
 use Rattle.rif_script.specs.CheckedText.{CheckedTextIsAJob, IsTooLongOrDeep, document_job}
 use Rattle.rif_script.specs.Jobs.{IsJob, IsRefused, IsScript, OneOutcome, document_text}

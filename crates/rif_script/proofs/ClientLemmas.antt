@@ -11,8 +11,8 @@ use Rattle.rif_refusals.specs.declared.refusal.Refusal.TheVariants.{TooManyClien
 use Rattle.rif_refusals.specs.declared.fault.Fault.{Fault}
 use Rattle.rif_refusals.specs.declared.fault.Fault.TheVariants.{Refused, OutOfMemory}
 use Rattle.rif_lex.specs.Lexing.{Answers}
-use Rattle.prd_reader.specs.Prefixes.{Prefixes}
-use Rattle.prd_reader.specs.Values.{has_name, place_of}
+use Rattle.prd_grammar.specs.Prefixes.{Prefixes}
+use Rattle.prd_grammar.specs.Values.{has_name, place_of}
 use Rattle.session_states.specs.declared.item.Item.{Item}
 use Rattle.rif_script.specs.declared.script.Script.{Script}
 use Rattle.rif_script.specs.Jobs.{budget_of, lines_of}

@@ -7,20 +7,20 @@ use Rattle.std.specs.List.{list_any}
 use Rattle.rif_values.specs.declared.constant.Const.{Const}
 use Rattle.rif_values.specs.declared.constant.Const.TheVariants.{Int as IntConst, Bool as BoolConst, Str as StrConst}
 use Rattle.rif_values.specs.declared.constant.Const.TheVariants.{Iri as IriConst, Local as LocalConst}
-use Rattle.prd_reader.specs.declared.leaf.Keyword.TheVariants.{True, False}
-use Rattle.prd_reader.specs.declared.leaf.Literal.{Literal}
-use Rattle.prd_reader.specs.declared.leaf.Literal.TheVariants.{Integer, Boolean, String, Iri as IriLiteral}
-use Rattle.prd_reader.specs.declared.leaf.Literal.TheVariants.{Local as LocalLiteral, OfNoType}
-use Rattle.prd_reader.specs.declared.leaf.Leaf.{Leaf}
-use Rattle.prd_reader.specs.declared.leaf.Leaf.TheVariants.{Key, Int, Str, Typed, TypeName, Iri, Curie, Local, Close}
-use Rattle.prd_reader.specs.declared.leaf.Leaf.TheVariants.{Carets}
+use Rattle.prd_grammar.specs.declared.leaf.Keyword.TheVariants.{True, False}
+use Rattle.prd_grammar.specs.declared.leaf.Literal.{Literal}
+use Rattle.prd_grammar.specs.declared.leaf.Literal.TheVariants.{Integer, Boolean, String, Iri as IriLiteral}
+use Rattle.prd_grammar.specs.declared.leaf.Literal.TheVariants.{Local as LocalLiteral, OfNoType}
+use Rattle.prd_grammar.specs.declared.leaf.Leaf.{Leaf}
+use Rattle.prd_grammar.specs.declared.leaf.Leaf.TheVariants.{Key, Int, Str, Typed, TypeName, Iri, Curie, Local, Close}
+use Rattle.prd_grammar.specs.declared.leaf.Leaf.TheVariants.{Carets}
 use Rattle.prd_reader.specs.FactForm.{HasNoRefusal, is_refused, ConstTrees, no_consts, consts, terms_of_consts}
 use Rattle.prd_reader.specs.FactForm.{consts_value}
-use Rattle.prd_reader.specs.Trees.{ConstTree, const_int, const_string, const_typed, const_iri, const_curie}
-use Rattle.prd_reader.specs.Trees.{const_local, const_true, const_false, spell_const, NameTree, name_iri, name_curie}
-use Rattle.prd_reader.specs.Trees.{name_local}
-use Rattle.prd_reader.specs.Trees.{name_typed_iri, name_typed_local, const_of_name, spell_terms}
-use Rattle.prd_reader.specs.Values.{const_value, literal_value}
+use Rattle.prd_grammar.specs.Trees.{ConstTree, const_int, const_string, const_typed, const_iri, const_curie}
+use Rattle.prd_grammar.specs.Trees.{const_local, const_true, const_false, spell_const, NameTree, name_iri, name_curie}
+use Rattle.prd_grammar.specs.Trees.{name_local}
+use Rattle.prd_grammar.specs.Trees.{name_typed_iri, name_typed_local, const_of_name, spell_terms}
+use Rattle.prd_grammar.specs.Values.{const_value, literal_value}
 use Rattle.rif_script.specs.ReadingItems.{◌>>=◌, begins_close, const_behind, const_from, consts_from, is_name}
 use Rattle.rif_script.specs.ReadingItems.{literal_const, past_type, whole}
 

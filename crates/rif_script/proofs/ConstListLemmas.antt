@@ -3,8 +3,8 @@ use Rattle.std.proofs.Common.{◌≡◌, ◌∙◌, sym, ap, refl, ℕ, suc, tru
 use Rattle.std.proofs.Common.{append-nil, Option, Some, None}
 use Rattle.std.specs.Prelude.{Err}
 use Rattle.rif_values.specs.declared.constant.Const.{Const}
-use Rattle.prd_reader.specs.declared.leaf.Leaf.{Leaf}
-use Rattle.prd_reader.specs.declared.leaf.Leaf.TheVariants.{Close}
+use Rattle.prd_grammar.specs.declared.leaf.Leaf.{Leaf}
+use Rattle.prd_grammar.specs.declared.leaf.Leaf.TheVariants.{Close}
 use Rattle.rif_script.specs.declared.sent_tokens.SentTokens.{SentTokens}
 use Rattle.rif_script.specs.declared.line_fault.LineFault.{LineFault}
 use Rattle.rif_script.specs.declared.line_fault.LineFault.TheVariants.{Bad, OutOfMemory}

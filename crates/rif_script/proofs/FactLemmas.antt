@@ -6,16 +6,16 @@ use Rattle.rif_values.specs.declared.change.Change.{Change}
 use Rattle.rif_values.specs.declared.change.Change.TheVariants.{Assert, Retract, RetractSlot, RetractObject, Modify}
 use Rattle.rif_values.specs.declared.fact.Fact.{Fact}
 use Rattle.rif_values.specs.declared.fact.Fact.TheVariants.{Atom, Frame, Member}
-use Rattle.prd_reader.specs.declared.leaf.Leaf.{Leaf}
-use Rattle.prd_reader.specs.declared.leaf.Leaf.TheVariants.{Int, Open, OpenSquare, CloseSquare, Hash, Arrow}
+use Rattle.prd_grammar.specs.declared.leaf.Leaf.{Leaf}
+use Rattle.prd_grammar.specs.declared.leaf.Leaf.TheVariants.{Int, Open, OpenSquare, CloseSquare, Hash, Arrow}
 use Rattle.prd_reader.specs.FactForm.{HasNoRefusal, ConstTrees, terms_of_consts, consts_value, FactTree, fact_member}
 use Rattle.prd_reader.specs.FactForm.{fact_frame, fact_atom, spell_fact, fact_value, IsConstForm, IsConstsForm}
 use Rattle.prd_reader.specs.FactForm.{IsFactForm, IsNumberForm}
-use Rattle.prd_reader.specs.Trees.{ConstTree, const_int, const_string, const_typed, const_iri, const_curie}
-use Rattle.prd_reader.specs.Trees.{const_local, const_true, const_false, spell_const, NameTree, const_of_name}
-use Rattle.prd_reader.specs.Trees.{spell_name}
-use Rattle.prd_reader.specs.Trees.{spell_terms}
-use Rattle.prd_reader.specs.Values.{const_value}
+use Rattle.prd_grammar.specs.Trees.{ConstTree, const_int, const_string, const_typed, const_iri, const_curie}
+use Rattle.prd_grammar.specs.Trees.{const_local, const_true, const_false, spell_const, NameTree, const_of_name}
+use Rattle.prd_grammar.specs.Trees.{spell_name}
+use Rattle.prd_grammar.specs.Trees.{spell_terms}
+use Rattle.prd_grammar.specs.Values.{const_value}
 use Rattle.rif_script.specs.ReadingItems.{atom_from, const_from, consts_from, fact_behind, fact_from, fact_with}
 use Rattle.rif_script.specs.ReadingItems.{frame_from, is_fact_sign, is_name, member_from, modified_from, modify_of}
 use Rattle.rif_script.specs.ReadingItems.{number_from, number_of, past_arrow, past_close_square, retracted_from}

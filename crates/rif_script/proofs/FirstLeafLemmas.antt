@@ -5,10 +5,10 @@ use Rattle.rif_values.specs.declared.constant.Const.{Const}
 use Rattle.rif_values.specs.declared.change.Change.TheVariants.{Retract, RetractSlot}
 use Rattle.rif_values.specs.declared.fact.Fact.{Fact}
 use Rattle.rif_lex.specs.Spelling.{Written}
-use Rattle.prd_reader.specs.declared.leaf.Leaf.{Leaf}
-use Rattle.prd_reader.specs.declared.leaf.Leaf.TheVariants.{Int}
-use Rattle.prd_reader.specs.Leaves.{leaves_from}
-use Rattle.prd_reader.specs.Prefixes.{Prefixes}
+use Rattle.prd_grammar.specs.declared.leaf.Leaf.{Leaf}
+use Rattle.prd_grammar.specs.declared.leaf.Leaf.TheVariants.{Int}
+use Rattle.prd_leaves.specs.Leaves.{leaves_from}
+use Rattle.prd_grammar.specs.Prefixes.{Prefixes}
 use Rattle.rif_script.specs.declared.sent_tokens.SentTokens.{SentTokens}
 use Rattle.rif_script.specs.ReadingItems.{◌>>=◌, const_behind, const_from, fact_behind, fact_retracted, fact_with}
 use Rattle.rif_script.specs.ReadingItems.{is_fact_sign, number_from, number_of, past_arrow, past_close_square}

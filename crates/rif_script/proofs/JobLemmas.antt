@@ -12,8 +12,8 @@ use Rattle.rif_refusals.specs.declared.fault.Fault.TheVariants.{Refused, OutOfMe
 use Rattle.rif_tree.specs.declared.rule.Doc.{Doc}
 use Rattle.rif_lex.specs.declared.token.Token.{Token}
 use Rattle.rif_lex.specs.Lexing.{Answers, lexed}
-use Rattle.prd_reader.specs.Documents.{IsRead, IsRefused as IsDocumentRefused, RefusesDocument}
-use Rattle.prd_reader.specs.Prefixes.{Prefixes}
+use Rattle.prd_leaves.specs.Documents.{IsRead, IsRefused as IsDocumentRefused, RefusesDocument}
+use Rattle.prd_grammar.specs.Prefixes.{Prefixes}
 use Rattle.rif_script.specs.declared.script.Script.{Script}
 use Rattle.rif_script.specs.JobParts.{IsDocumentText, RefusesText}
 use Rattle.rif_script.specs.Jobs.{HasDocument, IsJob, IsScript, IsScriptRefusal, IsText, RefusesJob, document_text}

@@ -11,7 +11,7 @@ use Rattle.rif_lex.specs.declared.token.Kind.TheVariants.{Word}
 use Rattle.rif_lex.specs.declared.token.Token.{Token}
 use Rattle.rif_lex.specs.Lexing.{lexed}
 use Rattle.rif_lex.specs.Spelling.{Written, written}
-use Rattle.prd_reader.specs.Prefixes.{Prefixes}
+use Rattle.prd_grammar.specs.Prefixes.{Prefixes}
 use Rattle.session_states.specs.declared.item.Item.{Item}
 use Rattle.session_states.specs.declared.item.Item.TheVariants.{Change as Changing, Fire, Until, Halt, Dispose}
 use Rattle.rif_script.specs.Jobs.{IsItemForm, IsLine, IsSentForm, is_client_name, is_comment, sent_leaves, word}

@@ -6,7 +6,7 @@ use Rattle.std.specs.Prelude.{bytes_eq}
 use Rattle.std.specs.List.{AllByRecursion}
 use Rattle.std.proofs.lemmas.List.Elements.{All-from_recursion}
 use Rattle.std.proofs.lemmas.Slice.Eq.{bytes_eq-Decides}
-use Rattle.prd_reader.specs.Values.{has_name, place_of}
+use Rattle.prd_grammar.specs.Values.{has_name, place_of}
 use Rattle.session_states.specs.declared.item.Item.{Item}
 use Rattle.rif_script.specs.Jobs.{names_of, names_without, numbered_items}
 

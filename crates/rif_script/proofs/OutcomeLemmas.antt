@@ -11,8 +11,8 @@ use Rattle.rif_refusals.specs.declared.refusal.Refusal.TheVariants.{NotUtf8}
 use Rattle.rif_tree.specs.declared.rule.Doc.{Doc}
 use Rattle.rif_lex.specs.declared.token.Token.{Token}
 use Rattle.rif_lex.specs.Lexing.{lexed}
-use Rattle.prd_reader.specs.Documents.{IsRead, IsRefused as IsDocumentRefused, OneOutcome as OneDocument}
-use Rattle.prd_reader.specs.Prefixes.{Prefixes}
+use Rattle.prd_leaves.specs.Documents.{IsRead, IsRefused as IsDocumentRefused, OneOutcome as OneDocument}
+use Rattle.prd_grammar.specs.Prefixes.{Prefixes}
 use Rattle.session_states.specs.declared.item.Item.{Item}
 use Rattle.rif_script.specs.declared.job.Job.{Job}
 use Rattle.rif_script.specs.declared.script.Script.{Script}

@@ -2,7 +2,7 @@
 use Rattle.std.proofs.Common.{◌≡◌, ◌∙◌, refl, ap, ℕ, ◌==◌, ◌&&◌, not, Bool, true, false, cond, List, [], ◌∷◌, ◌++◌}
 use Rattle.std.proofs.lemmas.Bool.{not-true}
 use Rattle.std.specs.List.{AllByRecursion}
-use Rattle.rif_lex.proofs.TestLemmas.{both}
+use Rattle.rif_lex.proofs.CallerLemmas.{both}
 use Rattle.rif_script.specs.Jobs.{document_text, is_separator, joined_before, lines_behind, lines_of, script_lines}
 use Rattle.rif_script.specs.Jobs.{with_byte}
 

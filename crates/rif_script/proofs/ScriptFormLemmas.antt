@@ -9,8 +9,8 @@ use Rattle.std.proofs.lemmas.Bool.Decides.{nat_tests}
 use Rattle.rif_refusals.specs.Limits.{most_clients, most_items, most_budgets}
 use Rattle.rif_refusals.specs.declared.refusal.Refusal.{Refusal}
 use Rattle.rif_refusals.specs.declared.refusal.Refusal.TheVariants.{BudgetTooLarge, TooManyItems, TooManyClients}
-use Rattle.prd_reader.specs.Prefixes.{Prefixes}
-use Rattle.prd_reader.specs.Values.{has_name, place_of, with_name}
+use Rattle.prd_grammar.specs.Prefixes.{Prefixes}
+use Rattle.prd_grammar.specs.Values.{has_name, place_of, with_name}
 use Rattle.session_states.specs.declared.item.Item.{Item}
 use Rattle.rif_script.specs.declared.script.Script.{Script}
 use Rattle.rif_script.specs.Jobs.{IsFaulty, IsLine, IsWithinLimits, budget_of, budget_sum, names_of, numbered_items}

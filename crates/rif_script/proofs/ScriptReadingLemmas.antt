@@ -8,7 +8,7 @@ use Rattle.rif_refusals.specs.Limits.{most_clients, most_items, most_budgets}
 use Rattle.rif_refusals.specs.declared.refusal.Refusal.{Refusal}
 use Rattle.rif_refusals.specs.declared.refusal.Refusal.TheVariants.{BadLine, BudgetTooLarge, TooManyItems}
 use Rattle.rif_refusals.specs.declared.refusal.Refusal.TheVariants.{TooManyClients}
-use Rattle.prd_reader.specs.Prefixes.{Prefixes}
+use Rattle.prd_grammar.specs.Prefixes.{Prefixes}
 use Rattle.session_states.specs.declared.item.Item.{Item}
 use Rattle.rif_script.specs.declared.script.Script.{Script}
 use Rattle.rif_script.specs.JobClients.{AreOfClients}

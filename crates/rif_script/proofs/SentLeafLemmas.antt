@@ -8,15 +8,15 @@ use Rattle.rif_lex.specs.declared.token.Kind.{Kind}
 use Rattle.rif_lex.specs.declared.token.Kind.TheVariants.{Word, Curie, Iri}
 use Rattle.rif_lex.specs.declared.token.Token.{Token}
 use Rattle.rif_lex.specs.Spelling.{Written, written}
-use Rattle.prd_reader.specs.declared.leaf.Keyword.TheVariants.{Prefix, External, True, False}
-use Rattle.prd_reader.specs.declared.leaf.Leaf.{Leaf}
-use Rattle.prd_reader.specs.declared.leaf.Leaf.TheVariants.{Key, LeftOut, Word as WordLeaf, TypeName, Iri as IriLeaf}
-use Rattle.prd_reader.specs.declared.leaf.Leaf.TheVariants.{Open as OpenLeaf, OpenSquare as OpenSquareLeaf}
-use Rattle.prd_reader.specs.declared.leaf.Leaf.TheVariants.{CloseSquare as CloseSquareLeaf, Hash as HashLeaf}
-use Rattle.prd_reader.specs.declared.leaf.Leaf.TheVariants.{Arrow as ArrowLeaf, Carets as CaretsLeaf}
-use Rattle.prd_reader.specs.Leaves.{is_behind_carets, is_behind_external, is_behind_prefix, leaf_of, leaves_from}
-use Rattle.prd_reader.specs.Leaves.{prefixes_with}
-use Rattle.prd_reader.specs.Prefixes.{Prefixes}
+use Rattle.prd_grammar.specs.declared.leaf.Keyword.TheVariants.{Prefix, External, True, False}
+use Rattle.prd_grammar.specs.declared.leaf.Leaf.{Leaf}
+use Rattle.prd_grammar.specs.declared.leaf.Leaf.TheVariants.{Key, LeftOut, Word as WordLeaf, TypeName, Iri as IriLeaf}
+use Rattle.prd_grammar.specs.declared.leaf.Leaf.TheVariants.{Open as OpenLeaf, OpenSquare as OpenSquareLeaf}
+use Rattle.prd_grammar.specs.declared.leaf.Leaf.TheVariants.{CloseSquare as CloseSquareLeaf, Hash as HashLeaf}
+use Rattle.prd_grammar.specs.declared.leaf.Leaf.TheVariants.{Arrow as ArrowLeaf, Carets as CaretsLeaf}
+use Rattle.prd_leaves.specs.Leaves.{is_behind_carets, is_behind_external, is_behind_prefix, leaf_of, leaves_from}
+use Rattle.prd_leaves.specs.Leaves.{prefixes_with}
+use Rattle.prd_grammar.specs.Prefixes.{Prefixes}
 use Rattle.rif_script.specs.ReadingItems.{const_behind, fact_behind, is_carets, is_known_type, past_arrow}
 use Rattle.rif_script.specs.ReadingItems.{past_close_square, past_name}
 use Rattle.rif_script.specs.SentLeaves.{is_calm}

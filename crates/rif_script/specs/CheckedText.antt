@@ -8,7 +8,7 @@ use Rattle.std.specs.Prelude.{◌≡◌, ◌⊎◌, ℕ, List, []}
 use Rattle.rif_refusals.specs.declared.refusal.Refusal.{Refusal}
 use Rattle.rif_refusals.specs.declared.refusal.Refusal.TheVariants.{InputTooLong, TooDeep}
 use Rattle.rif_tree.specs.declared.rule.Doc.{Doc}
-use Rattle.prd_reader.specs.Canonical.{canonical_text}
+use Rattle.prd_writing.specs.Canonical.{canonical_text}
 use Rattle.rif_script.specs.declared.job.Job.{Job}
 use Rattle.rif_script.specs.Jobs.{IsJob, IsRefused}
 

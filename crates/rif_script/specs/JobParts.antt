@@ -7,8 +7,8 @@ use Rattle.rif_refusals.specs.declared.fault.Fault.TheVariants.{Refused, OutOfMe
 use Rattle.rif_tree.specs.declared.rule.Doc.{Doc}
 use Rattle.rif_lex.specs.declared.token.Token.{Token}
 use Rattle.rif_lex.specs.Lexing.{lexed}
-use Rattle.prd_reader.specs.Documents.{IsRead, IsRefused}
-use Rattle.prd_reader.specs.Prefixes.{Prefixes}
+use Rattle.prd_leaves.specs.Documents.{IsRead, IsRefused}
+use Rattle.prd_grammar.specs.Prefixes.{Prefixes}
 
 abbrev pub IsDocumentText : List ℕ → Doc → Prefixes → Type 0
 IsDocumentText text doc prefixes = (tokens : List Token) × (lexed text ≡ Ok tokens) × IsRead tokens text doc prefixes

@@ -31,12 +31,12 @@ use Rattle.rif_lex.specs.declared.token.Token.{Token}
 use Rattle.rif_lex.specs.Characters.{begins, is_between}
 use Rattle.rif_lex.specs.Lexing.{lexed}
 use Rattle.rif_lex.specs.Spelling.{Written, written}
-use Rattle.prd_reader.specs.declared.leaf.Leaf.{Leaf}
-use Rattle.prd_reader.specs.Documents.{IsRead, IsRefused as IsDocumentRefused}
+use Rattle.prd_grammar.specs.declared.leaf.Leaf.{Leaf}
+use Rattle.prd_leaves.specs.Documents.{IsRead, IsRefused as IsDocumentRefused}
 use Rattle.prd_reader.specs.FactForm.{IsConstForm, IsConstsForm, IsFactForm, IsNumberForm}
-use Rattle.prd_reader.specs.Leaves.{leaves_from}
-use Rattle.prd_reader.specs.Prefixes.{Prefixes}
-use Rattle.prd_reader.specs.Values.{place_of}
+use Rattle.prd_leaves.specs.Leaves.{leaves_from}
+use Rattle.prd_grammar.specs.Prefixes.{Prefixes}
+use Rattle.prd_grammar.specs.Values.{place_of}
 use Rattle.session_states.specs.declared.item.Item.{Item}
 use Rattle.session_states.specs.declared.item.Item.TheVariants.{Change, Fire, Until, Halt, Dispose}
 use Rattle.rif_script.specs.declared.job.Job.{Job}

@@ -15,15 +15,15 @@ use Rattle.rif_values.specs.declared.fact.Fact.TheVariants.{Atom, Frame, Member}
 use Rattle.rif_lex.specs.declared.token.Kind.{Kind}
 use Rattle.rif_lex.specs.declared.token.Kind.TheVariants.{Word}
 use Rattle.rif_lex.specs.Spelling.{Written}
-use Rattle.prd_reader.specs.declared.leaf.Keyword.{Keyword}
-use Rattle.prd_reader.specs.declared.leaf.Keyword.TheVariants.{True, False}
-use Rattle.prd_reader.specs.declared.leaf.Literal.{Literal}
-use Rattle.prd_reader.specs.declared.leaf.Literal.TheVariants.{Integer, Boolean, String, Iri as IriLiteral}
-use Rattle.prd_reader.specs.declared.leaf.Literal.TheVariants.{Local as LocalLiteral, OfNoType}
-use Rattle.prd_reader.specs.declared.leaf.Leaf.{Leaf}
-use Rattle.prd_reader.specs.declared.leaf.Leaf.TheVariants.{Key, Int, Str, Typed, TypeName, Iri, Curie, Local, Open}
-use Rattle.prd_reader.specs.declared.leaf.Leaf.TheVariants.{Close, OpenSquare, CloseSquare, Hash, Arrow, Carets}
-use Rattle.prd_reader.specs.Prefixes.{Prefixes}
+use Rattle.prd_grammar.specs.declared.leaf.Keyword.{Keyword}
+use Rattle.prd_grammar.specs.declared.leaf.Keyword.TheVariants.{True, False}
+use Rattle.prd_grammar.specs.declared.leaf.Literal.{Literal}
+use Rattle.prd_grammar.specs.declared.leaf.Literal.TheVariants.{Integer, Boolean, String, Iri as IriLiteral}
+use Rattle.prd_grammar.specs.declared.leaf.Literal.TheVariants.{Local as LocalLiteral, OfNoType}
+use Rattle.prd_grammar.specs.declared.leaf.Leaf.{Leaf}
+use Rattle.prd_grammar.specs.declared.leaf.Leaf.TheVariants.{Key, Int, Str, Typed, TypeName, Iri, Curie, Local, Open}
+use Rattle.prd_grammar.specs.declared.leaf.Leaf.TheVariants.{Close, OpenSquare, CloseSquare, Hash, Arrow, Carets}
+use Rattle.prd_grammar.specs.Prefixes.{Prefixes}
 use Rattle.session_states.specs.declared.item.Item.{Item}
 use Rattle.session_states.specs.declared.item.Item.TheVariants.{Change as Changing, Fire, Until, Halt, Dispose}
 use Rattle.rif_script.specs.Jobs.{is_client_name, sent_leaves}

@@ -12,8 +12,8 @@ use Rattle.rif_refusals.specs.declared.refusal.Refusal.TheVariants.{TooManyClien
 use Rattle.rif_lex.specs.declared.token.Token.{Token}
 use Rattle.rif_lex.specs.Lexing.{lexed}
 use Rattle.rif_lex.specs.Spelling.{written}
-use Rattle.prd_reader.specs.Prefixes.{Prefixes}
-use Rattle.prd_reader.specs.Values.{has_name, place_of, with_name}
+use Rattle.prd_grammar.specs.Prefixes.{Prefixes}
+use Rattle.prd_grammar.specs.Values.{has_name, place_of, with_name}
 use Rattle.session_states.specs.declared.item.Item.{Item}
 use Rattle.rif_script.specs.declared.script.Script.{Script}
 use Rattle.rif_script.specs.Jobs.{budget_of, is_comment}

@@ -8,7 +8,7 @@ use Rattle.std.specs.declared.result.Result.{Result}
 use Rattle.rif_refusals.specs.Limits.{most_clients, most_budgets, most_items}
 use Rattle.rif_refusals.specs.declared.refusal.Refusal.{Refusal}
 use Rattle.rif_refusals.specs.declared.refusal.Refusal.TheVariants.{BudgetTooLarge, TooManyClients, TooManyItems}
-use Rattle.prd_reader.specs.Values.{has_name, place_of, with_name}
+use Rattle.prd_grammar.specs.Values.{has_name, place_of, with_name}
 use Rattle.session_states.specs.declared.item.Item.{Item}
 use Rattle.rif_script.specs.declared.script.Script.{Script}
 use Rattle.rif_script.specs.Jobs.{budget_of}

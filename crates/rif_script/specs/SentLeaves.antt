@@ -5,11 +5,11 @@
 use Rattle.std.specs.Prelude.{◌≡◌, Bool, true, false, List, ◌∷◌, drop, map, Option, Some, None, Ok, Err}
 use Rattle.std.specs.declared.result.Result.{Result}
 use Rattle.rif_lex.specs.Spelling.{Written, written}
-use Rattle.prd_reader.specs.declared.leaf.Keyword.{Keyword}
-use Rattle.prd_reader.specs.declared.leaf.Keyword.TheVariants.{True, False}
-use Rattle.prd_reader.specs.declared.leaf.Leaf.{Leaf}
-use Rattle.prd_reader.specs.declared.leaf.Leaf.TheVariants.{Key, LeftOut, Word, Carets}
-use Rattle.prd_reader.specs.Leaves.{leaves_from, prefixes_with}
+use Rattle.prd_grammar.specs.declared.leaf.Keyword.{Keyword}
+use Rattle.prd_grammar.specs.declared.leaf.Keyword.TheVariants.{True, False}
+use Rattle.prd_grammar.specs.declared.leaf.Leaf.{Leaf}
+use Rattle.prd_grammar.specs.declared.leaf.Leaf.TheVariants.{Key, LeftOut, Word, Carets}
+use Rattle.prd_leaves.specs.Leaves.{leaves_from, prefixes_with}
 use Rattle.rif_script.specs.declared.sent_tokens.SentTokens.{SentTokens}
 use Rattle.rif_script.specs.declared.line_fault.LineFault.{LineFault}
 use Rattle.rif_script.specs.declared.line_fault.LineFault.TheVariants.{Bad, OutOfMemory}

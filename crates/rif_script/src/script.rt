@@ -2,7 +2,7 @@
 ghost use Rattle.std.specs.Prelude.{◌≡◌, ◌<◌, ◌≤◌, ◌^◌, ◌+◌, ◌++◌, ◌∷◌, [], IfOk, IsUtf8, length};
 ghost use Rattle.rif_refusals.specs.Limits.{most_clients};
 ghost use Rattle.rif_lex.specs.Lexing.{Answers};
-ghost use Rattle.prd_reader.specs.Values.{place_of};
+ghost use Rattle.prd_grammar.specs.Values.{place_of};
 ghost use Rattle.rif_script.specs.Jobs.{budget_of, lines_of};
 ghost use Rattle.rif_script.specs.ReadingLines.{no_lines, with_lines};
 ghost use Rattle.rif_script.specs.ScriptSteps.{budgets_with, client_with};

@@ -23,10 +23,10 @@ impl<'a> SentTokens<'a> {
     ghost use Rattle.std.specs.Prelude.{◌≡◌, ◌≤◌, ◌↔◌, ◌<◌, ◌∷◌, [], drop, length, map, Ok, IfOk, IsTrue, MatchOption};
     ghost use Rattle.rif_lex.specs.Lexing.{lexed};
     ghost use Rattle.rif_lex.specs.Spelling.{written};
-    ghost use Rattle.prd_reader.specs.declared.leaf.Leaf.TheVariants.{Carets};
+    ghost use Rattle.prd_grammar.specs.declared.leaf.Leaf.TheVariants.{Carets};
     ghost use Rattle.rif_script.specs.Jobs.{sent_leaves};
     ghost use Rattle.rif_script.specs.ReadingItems.{past_arrow, past_close_square, past_name, past_type};
-    ghost use Rattle.prd_reader.specs.LeafSteps.{front_of};
+    ghost use Rattle.prd_leaves.specs.LeafSteps.{front_of};
     ghost use Rattle.rif_script.specs.SentLeaves.{Gives, IsNext, leaves_past, seen};
 
     /// The tokens of these bytes from a place on, with these prefixes.

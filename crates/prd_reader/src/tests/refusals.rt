@@ -1,5 +1,5 @@
 use super::read;
-use crate::explaining::place_of;
+use prd_recognition::place_of_refusal;
 use rif_refusals::Fault;
 use std::test::Fail;
 
@@ -323,7 +323,7 @@ fn each_mistake_is_refused_at_its_place(rt: HostRuntime) -> Result<(), Fail> {
             panic!(rt; "{what} is read");
         };
         assert_eq!(rt; refusal.number(), *number, "{what}");
-        assert_eq!(rt; place_of(&refusal), Some((*line, *col)), "{what}");
+        assert_eq!(rt; place_of_refusal(&refusal), Some((*line, *col)), "{what}");
     }
     Ok(())
 }

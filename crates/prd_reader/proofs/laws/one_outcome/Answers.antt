@@ -1,5 +1,5 @@
-use Rattle.prd_reader.proofs.BuildingLaws.{one_document}
-use Rattle.prd_reader.proofs.OutcomeLemmas.{one_refusal, not_both}
+use Rattle.prd_reader.proofs.OneDocumentLemmas.{one_document}
+use Rattle.prd_leaves.proofs.CallerLemmas.{one_refusal, not_both}
 use Rattle.prd_reader.proofs.laws.one_outcome.Goals as goal
 
 pub returns : goal.returns

@@ -1,5 +1,5 @@
 use Rattle.std.proofs.Common.{◌∙◌, ap, List}
-use Rattle.prd_reader.specs.declared.leaf.Leaf.{Leaf}
+use Rattle.prd_grammar.specs.declared.leaf.Leaf.{Leaf}
 use Rattle.rif_script.specs.ReadingItems.{whole}
 use Rattle.rif_script.specs.SentLeaves.{seen}
 use Rattle.rif_script.proofs.FirstLeafLemmas.{first_seen, number_first, whole_none}

@@ -1,5 +1,5 @@
-use Rattle.prd_reader.proofs.BuildingLaws.{one_document}
-use Rattle.prd_reader.proofs.OutcomeLemmas.{not_both, one_refusal}
+use Rattle.prd_reader.proofs.CallerLemmas.{one_document}
+use Rattle.prd_leaves.proofs.CallerLemmas.{not_both, one_refusal}
 use Rattle.rif_script.proofs.OutcomeLemmas.{one_outcome}
 use Rattle.rif_script.proofs.laws.one_outcome.Goals as goal
 

@@ -1,5 +1,5 @@
 use Rattle.std.proofs.Common.{ℕ, List, [], ◌∷◌, ◌++◌, ◌∙◌, ap}
-use Rattle.prd_reader.specs.Values.{place_of}
+use Rattle.prd_grammar.specs.Values.{place_of}
 use Rattle.rif_script.proofs.ClientLemmas.{known_client, new_client, one_too_many}
 use Rattle.rif_script.proofs.script.client_with.Goals as goal
 

@@ -1,5 +1,5 @@
 use Rattle.std.proofs.Common.{◌≡◌, ◌+◌, ◌-◌, ◌≤◌, drop, length}
-use Rattle.prd_reader.specs.Values.{place_of}
+use Rattle.prd_grammar.specs.Values.{place_of}
 use Rattle.rif_script.proofs.script.place_of.Given as goal
 
 abbrev pub invariant-loop-place : goal.invariant-loop-place

@@ -1,6 +1,6 @@
 use Rattle.std.proofs.Common.{◌<◌, length, arith}
 use Rattle.std.proofs.lemmas.Bool.Decides.{nat_tests}
-use Rattle.prd_reader.proofs.LeafLemmas.{token_at}
+use Rattle.prd_leaves.proofs.CallerLemmas.{token_at}
 use Rattle.prd_reader.proofs.tests.leaves.first_leaf.Goals as goal
 
 pub leaf_at-requires : goal.leaf_at-requires

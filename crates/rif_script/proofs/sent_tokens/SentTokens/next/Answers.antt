@@ -1,4 +1,4 @@
-use Rattle.prd_reader.proofs.LeafLemmas.{token_at}
+use Rattle.prd_leaves.proofs.CallerLemmas.{token_at}
 use Rattle.rif_script.proofs.sent_tokens.SentTokens.next.Goals as goal
 
 pub leaf_at-requires : goal.leaf_at-requires

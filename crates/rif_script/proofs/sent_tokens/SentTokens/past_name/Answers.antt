@@ -1,6 +1,6 @@
 use Rattle.std.proofs.Common.{◌∙◌, sym}
 use Rattle.rif_script.specs.SentLeaves.{leaves_past, texts_left}
-use Rattle.prd_reader.specs.declared.leaf.Leaf.TheVariants.{Carets}
+use Rattle.prd_grammar.specs.declared.leaf.Leaf.TheVariants.{Carets}
 use Rattle.std.proofs.Common.{◌∷◌, []}
 use Rattle.rif_script.proofs.SentLeafLemmas.{name_passed}
 use Rattle.rif_script.proofs.sent_tokens.SentTokens.past_name.Goals as goal

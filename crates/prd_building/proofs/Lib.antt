@@ -1,0 +1,9 @@
+pub mod BuildingLists
+pub mod BuildingTermLemmas
+pub mod BuildingFormulaLemmas
+pub mod BuildingActionLemmas
+pub mod BuildingMembers
+pub mod BuildingRuleLemmas
+pub mod BuildingDocumentLemmas
+pub mod BuildingLaws
+pub mod CallerLemmas

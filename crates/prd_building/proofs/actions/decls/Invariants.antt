@@ -1,0 +1,12 @@
+use Rattle.std.proofs.Common.{◌≡◌, drop}
+use Rattle.prd_building.specs.Signs.{ends_decls}
+use Rattle.prd_building.specs.Building.{decl_at, decls_at, items_at, with_front}
+use Rattle.prd_building.proofs.actions.decls.Given as goal
+
+abbrev pub invariant-loop-left : goal.invariant-loop-left
+invariant-loop-left l =
+    with_front l.all (items_at ends_decls (decl_at l.names l.most) l.left (drop l.at l.leaves))
+    ≡ decls_at l.names l.most (drop l.from l.leaves)
+
+abbrev pub decreases-loop-left : goal.decreases-loop-left
+decreases-loop-left l = l.left

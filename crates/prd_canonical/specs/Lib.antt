@@ -1,0 +1,5 @@
+pub mod Writable
+pub mod CanonicalTrees
+pub mod ReadBack
+pub mod Separate
+pub mod WritableLeaves

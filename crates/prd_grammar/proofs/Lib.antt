@@ -1,0 +1,4 @@
+pub mod ComingSpelling
+pub mod ComingRuleSpelling
+pub mod PlacingNameLemmas
+pub mod CallerLemmas

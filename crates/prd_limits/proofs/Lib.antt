@@ -1,0 +1,16 @@
+pub mod CountingFolds
+pub mod CountingTermLemmas
+pub mod CountingFormulaLemmas
+pub mod CountingActionLemmas
+pub mod CountingRuleLemmas
+pub mod CountingValueLemmas
+pub mod CountingFoldLemmas
+pub mod CountingGroupLemmas
+pub mod CountingDocumentLemmas
+pub mod CountingLimitLemmas
+pub mod CountingPriorityLemmas
+pub mod PlacingTermLemmas
+pub mod PlacingFormulaLemmas
+pub mod PlacingRuleLemmas
+pub mod FittingLemmas
+pub mod CallerLemmas

@@ -1,8 +1,0 @@
--- The grammar and what may come are one: the documents are what may come whole, and each front of one has an end.
-use Rattle.prd_reader.specs.Following.{GrammarIsFollowed}
-use Rattle.prd_reader.proofs.ComingDocumentLemmas.{comes}
-use Rattle.prd_reader.proofs.EndingLemmas.{ends}
-use Rattle.prd_reader.proofs.GoingDocumentLemmas.{goes}
-
-pub machine_laws : GrammarIsFollowed
-machine_laws = record { goes = goes; comes = comes; ends = ends }

@@ -1,8 +1,0 @@
-use Rattle.std.proofs.lemmas.Result.{IfOk-weaker}
-use Rattle.prd_reader.proofs.MachineLemmas.{machine_laws}
-use Rattle.prd_reader.proofs.RefusingLemmas.{leads_to}
-use Rattle.prd_reader.proofs.recognizing.recognize.Goals as goal
-
-pub returns : goal.returns
-returns c = IfOk-weaker c.recognize_from.result _ _
-    (λ outcome followed. leads_to machine_laws c.args.leaves.now outcome followed) c.recognize_from.ensures

@@ -1,0 +1,3 @@
+pub mod WritingLemmas
+pub mod FoldLemmas
+pub mod CallerLemmas
