@@ -4,7 +4,7 @@ use Rattle.std.proofs.Common.{option_map, refl, ap}
 use Rattle.std.specs.List.{list_any}
 use Rattle.std.specs.declared.option.Option.{Option}
 use Rattle.rif_values.specs.declared.instance.Instance.{Instance}
-use Rattle.rif_tree.specs.declared.rule.Doc.{Doc}
+use Rattle.prd_relation.specs.RuleSystem.{RuleSystem}
 use Rattle.prd_relation.specs.declared.candidate.Candidate.{Candidate}
 use Rattle.prd_relation.specs.declared.moment.Moment.{Moment}
 use Rattle.prd_relation.specs.Choice.{best_by, is_lower, is_older, highest_instances, unrefracted_instances}
@@ -37,23 +37,23 @@ module _ {X Y : Type 0} (f : X → Y) where
       filter_map_same (λ y. not (list_any (v y) (map f xs))) (λ x. not (list_any (w x) xs))
       (λ x. ap not (any_map (v (f x)) (w x) (same x) xs)) xs
 
-first_of_map : (doc : Doc) (ms : List Moment) (is : List Instance)
-    → option_map (λ (c : Candidate). c.instance) (slice_get (map (candidate_of doc ms) is) 0) ≡ slice_get is 0
-first_of_map doc ms [] = refl
-first_of_map doc ms (i ∷ is) = refl
+first_of_map : (system : RuleSystem) (ms : List Moment) (is : List Instance)
+    → option_map (λ (c : Candidate). c.instance) (slice_get (map (candidate_of system ms) is) 0) ≡ slice_get is 0
+first_of_map system ms [] = refl
+first_of_map system ms (i ∷ is) = refl
 
 -- what is chosen among candidates
-pub chosen_is : (doc : Doc) (ms : List Moment) (unrefracted highest youngest : List Candidate)
+pub chosen_is : (system : RuleSystem) (ms : List Moment) (unrefracted highest youngest : List Candidate)
     (first : Option Candidate)
-    → unrefracted ≡ map (candidate_of doc ms) (unrefracted_instances ms (newest_conflict_set ms))
+    → unrefracted ≡ map (candidate_of system ms) (unrefracted_instances ms (newest_conflict_set ms))
     → highest ≡ best_by is_outranked unrefracted
     → youngest ≡ best_by is_staler highest → first ≡ slice_get youngest 0
-    → option_map (λ (c : Candidate). c.instance) first ≡ chosen_instance doc ms
-chosen_is doc ms unrefracted highest youngest first a b c d =
-    let f = candidate_of doc ms in
+    → option_map (λ (c : Candidate). c.instance) first ≡ chosen_instance system ms
+chosen_is system ms unrefracted highest youngest first a b c d =
+    let f = candidate_of system ms in
     let eager = unrefracted_instances ms (newest_conflict_set ms) in
-    let above = b ∙ ap (best_by is_outranked) a ∙ best_by_map f is_outranked (is_lower doc) (λ i j. refl) eager in
+    let above = b ∙ ap (best_by is_outranked) a ∙ best_by_map f is_outranked (is_lower system) (λ i j. refl) eager in
     let allowed = c ∙ ap (best_by is_staler) above
-    ∙ best_by_map f is_staler (is_older ms) (λ i j. refl) (highest_instances doc eager) in
+    ∙ best_by_map f is_staler (is_older ms) (λ i j. refl) (highest_instances system eager) in
     ap (option_map (λ (c : Candidate). c.instance)) (d ∙ ap (λ (cs : List Candidate). slice_get cs 0) allowed)
-    ∙ first_of_map doc ms (allowed_instances doc ms)
+    ∙ first_of_map system ms (allowed_instances system ms)

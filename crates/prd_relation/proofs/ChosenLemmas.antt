@@ -1,22 +1,24 @@
 -- What is chosen, and when nothing is.
-use Rattle.std.proofs.Common.{◌≡◌, ◌∙◌, ℕ, Bool, true, false, cond, not, ◌&&◌, ◌||◌, List, [], ◌∷◌, filter, slice_get}
+use Rattle.std.proofs.Common.{◌≡◌, ◌≢◌, ◌∙◌, ℕ, Bool, true, false, cond, not, ◌&&◌, ◌||◌, List, [], ◌∷◌}
+use Rattle.std.proofs.Common.{filter, slice_get}
 use Rattle.std.proofs.Common.{Some, None, refl, ap, sym, arith}
-use Rattle.std.proofs.Common.{ℤ, nat_lt, true≢false}
+use Rattle.std.proofs.Common.{ℤ, nat_lt, subst, true≢false}
 use Rattle.std.proofs.lemmas.Grind.{common_steps}
 use Rattle.std.specs.Cmp.{int_cmp_total, int_cmp_is}
 use Rattle.std.specs.List.{AllByRecursion, list_any}
 use Rattle.std.specs.declared.cmp.Ordering.{Ordering}
 use Rattle.std.specs.declared.cmp.Ordering.TheVariants.{Less, Equal, Greater}
-use Rattle.std.specs.Ordering.{eq_by_cmp, int_cmp, is_lt}
+use Rattle.std.specs.Ordering.{eq_by_cmp, int_cmp, is_gt, is_lt}
 use Rattle.rif_values.proofs.CallerLemmas.{total_instances, exact_instances}
-use Rattle.rif_sets.proofs.CallerLemmas.{has_filter, equal_is, equal_itself}
+use Rattle.rif_sets.proofs.CallerLemmas.{has_filter, equal_is, equal_itself, first_is_least, set_empty, set_filter}
 use Rattle.rif_values.specs.declared.instance.Instance.{Instance}
 use Rattle.rif_values.specs.InstanceOrder.{instance_cmp}
-use Rattle.rif_values.specs.Sets.{has}
-use Rattle.prd_relation.specs.Choice.{best_by, priority_of, is_lower, is_older, highest_instances, youngest_instances}
+use Rattle.rif_values.specs.Sets.{has, IsSet}
+use Rattle.prd_relation.specs.Choice.{best_by, is_lower, is_older, highest_instances, youngest_instances}
 use Rattle.prd_relation.specs.Choice.{unrefracted_instances, allowed_instances}
-use Rattle.prd_relation.specs.History.{newest_conflict_set, age_of, is_refracted}
-use Rattle.prd_relation.specs.Laws.{ChoosesBest, ChoosesUnrefracted, ChoosesWhereItCan}
+use Rattle.prd_relation.specs.History.{Snapshot, moments_of, newest_conflict_set, age_of, is_refracted}
+use Rattle.prd_relation.specs.Laws.{ChoosesBest, ChoosesLeast, ChoosesUnrefracted, ChoosesWhereItCan}
+use Rattle.prd_relation.specs.RuleSystem.{RuleSystem}
 
 has_first : (xs : List Instance) (i : Instance) → slice_get xs 0 ≡ Some i → has instance_cmp xs i ≡ true
 has_first [] i at = absurd (cc at)
@@ -42,14 +44,55 @@ negated false h = refl
 
 -- what is chosen is in the newest conflict set and isn't refracted
 pub chosen_unrefracted : ChoosesUnrefracted
-chosen_unrefracted doc ms i chosen =
+chosen_unrefracted system ms i chosen =
     let eager = unrefracted_instances ms (newest_conflict_set ms) in
-    let highest = highest_instances doc eager in
+    let highest = highest_instances system eager in
     let young = kept (λ x. not (list_any (is_older ms x) highest)) highest i
-    (has_first (allowed_instances doc ms) i chosen) in
-    let high = kept (λ x. not (list_any (is_lower doc x) eager)) eager i young.1 in
+    (has_first (allowed_instances system ms) i chosen) in
+    let high = kept (λ x. not (list_any (is_lower system x) eager)) eager i young.1 in
     let free = kept (λ x. not (is_refracted ms x)) (newest_conflict_set ms) i high.1 in
     (free.1, negated (is_refracted ms i) free.0)
+
+-- ---- what is chosen is the least
+
+newest_set : (system : RuleSystem) (history : List Snapshot)
+    → IsSet instance_cmp (newest_conflict_set (moments_of system history))
+newest_set system [] = set_empty total_instances exact_instances
+newest_set system (snapshot ∷ history) = system.in_order snapshot.facts
+
+allowed_set : (system : RuleSystem) (history : List Snapshot)
+    → IsSet instance_cmp (allowed_instances system (moments_of system history))
+allowed_set system history =
+    let ms = moments_of system history in
+    let eager = unrefracted_instances ms (newest_conflict_set ms) in
+    let highest = highest_instances system eager in
+    set_filter total_instances exact_instances (λ x. not (list_any (is_older ms x) highest)) highest
+    (set_filter total_instances exact_instances (λ x. not (list_any (is_lower system x) eager)) eager
+    (set_filter total_instances exact_instances (λ x. not (is_refracted ms x)) (newest_conflict_set ms)
+    (newest_set system history)))
+
+below : (x j : Instance) (o : Ordering) → instance_cmp x j ≡ o → is_gt o ≡ false → j ≢ x → o ≡ Less
+below x j Less is least apart = refl
+below x j Equal is least apart = absurd (apart (sym (exact_instances x j is)))
+below x j Greater is least apart = absurd (cc least)
+
+first_below : (xs : List Instance) (i j : Instance) → IsSet instance_cmp xs → slice_get xs 0 ≡ Some i
+    → has instance_cmp xs j ≡ true → j ≢ i → instance_cmp i j ≡ Less
+first_below [] i j set at there apart = absurd (cc at)
+first_below (x ∷ xs) i j set at there apart =
+    let same : x ≡ i = cc at in
+    let least = first_is_least total_instances exact_instances x xs j set there in
+    subst (λ (y : Instance). instance_cmp y j ≡ Less) same
+    (below x j (instance_cmp x j) refl least (λ is. apart (is ∙ same)))
+
+pub chosen_least : ChoosesLeast
+chosen_least system history i chosen =
+    let allowed = allowed_instances system (moments_of system history) in (
+      has_first allowed i chosen,
+      λ j there apart. first_below allowed i j (allowed_set system history) chosen there apart,
+    )
+
+-- ---- what is chosen is a best one
 
 neither : (a b : Bool) → (a || b) ≡ false → (a ≡ false) × (b ≡ false)
 neither true b h = absurd (cc h)
@@ -69,13 +112,13 @@ none_passes p (x ∷ xs) j none there =
     by_first false is here later = later (sym (ap (λ b. b || has instance_cmp xs j) is) ∙ there)
 
 pub chosen_best : ChoosesBest
-chosen_best doc ms i j chosen =
+chosen_best system ms i j chosen =
     let eager = unrefracted_instances ms (newest_conflict_set ms) in
-    let highest = highest_instances doc eager in
+    let highest = highest_instances system eager in
     let young = kept (λ x. not (list_any (is_older ms x) highest)) highest i
-    (has_first (allowed_instances doc ms) i chosen) in
-    let high = kept (λ x. not (list_any (is_lower doc x) eager)) eager i young.1 in (
-      none_passes (is_lower doc i) eager j (negated (list_any (is_lower doc i) eager) high.0),
+    (has_first (allowed_instances system ms) i chosen) in
+    let high = kept (λ x. not (list_any (is_lower system x) eager)) eager i young.1 in (
+      none_passes (is_lower system i) eager j (negated (list_any (is_lower system i) eager) high.0),
       none_passes (is_older ms i) highest j (negated (list_any (is_older ms i) highest) young.0),
     )
 
@@ -151,14 +194,14 @@ older_irr a = grind (arith, common_steps)
 
 -- nothing is chosen exactly where each instance of the newest conflict set is refracted
 pub nothing_chosen : ChoosesWhereItCan
-nothing_chosen doc ms =
+nothing_chosen system ms =
     let eager = unrefracted_instances ms (newest_conflict_set ms) in (
       λ none.
-          let lower = λ (i j k : Instance). lower_trans (priority_of doc i.rule) (priority_of doc j.rule)
-          (priority_of doc k.rule) in
+          let lower = λ (i j k : Instance). lower_trans (system.priority i.rule) (system.priority j.rule)
+          (system.priority k.rule) in
           let older = λ (i j k : Instance). older_trans (age_of ms i) (age_of ms j) (age_of ms k) in
-          best_of_some (is_lower doc) lower (λ i. lower_irr (priority_of doc i.rule)) eager
-          (best_of_some (is_older ms) older (λ i. older_irr (age_of ms i)) (highest_instances doc eager)
-          (first_none (allowed_instances doc ms) none)),
-      λ empty. ap (λ (is : List Instance). slice_get (youngest_instances ms (highest_instances doc is)) 0) empty,
+          best_of_some (is_lower system) lower (λ i. lower_irr (system.priority i.rule)) eager
+          (best_of_some (is_older ms) older (λ i. older_irr (age_of ms i)) (highest_instances system eager)
+          (first_none (allowed_instances system ms) none)),
+      λ empty. ap (λ (is : List Instance). slice_get (youngest_instances ms (highest_instances system is)) 0) empty,
     )

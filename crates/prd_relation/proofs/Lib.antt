@@ -1,9 +1,10 @@
 pub mod ChoiceLemmas
 pub mod ChosenLemmas
-pub mod GatheringLemmas
 pub mod HistoryLemmas
 pub mod PlainLemmas
 pub mod ReplayLawLemmas
 pub mod ReplayLemmas
+pub mod RunHistoryLemmas
 pub mod RunLawLemmas
+pub mod TurnFactsLemmas
 pub mod TurnLemmas

@@ -1,12 +1,13 @@
 -- Histories, and what they say of an instance. A history lists its states, the newest first; the last one is the
 -- empty state of facts, from which each run starts. State number n is the one that has n states behind it.
 --     Snapshot                    a state of facts, and the instance whose firing led to it, where one did
---     moments_of doc h            the conflict sets and picks of a history
+--     moments_of system h         the conflict sets and picks of a history
 --     has_instance m i            whether the conflict set of a state has the instance
 --     age_of ms i                 for how many states in a row, up to the newest, conflict sets have had the instance
 --     is_refracted ms i           whether the instance was picked, and conflict sets have had it ever since
 --     IsAge ms i n                that the age is n, without the recursion
 --     IsRefracted ms i            that the instance is refracted, without the recursion
+--     IsHistory system h          each state is a set of facts, and each pick was an instance at the state before
 -- Source: RIF-PRD, "Conflict resolution", rif:forwardChaining: refraction and recency. Which states count is the
 -- project's own (docs/PROFILE.md, "States that count").
 use Rattle.std.specs.Prelude.{◌≡◌, ℕ, suc, Bool, true, false, ◌&&◌, ◌||◌, List, [], ◌∷◌, ◌++◌, map, length, Some}
@@ -16,12 +17,11 @@ use Rattle.std.specs.Ordering.{eq_by_cmp}
 use Rattle.std.specs.declared.option.Option.{Option}
 use Rattle.rif_values.specs.declared.fact.Fact.{Fact}
 use Rattle.rif_values.specs.declared.instance.Instance.{Instance}
-use Rattle.rif_tree.specs.declared.rule.Doc.{Doc}
 use Rattle.rif_values.specs.InstanceOrder.{instance_cmp}
 use Rattle.rif_values.specs.Facts.{IsFacts}
 use Rattle.rif_values.specs.Sets.{has}
 use Rattle.prd_relation.specs.declared.moment.Moment.{Moment}
-use Rattle.rif_match.specs.ConflictSet.{conflict_set}
+use Rattle.prd_relation.specs.RuleSystem.{RuleSystem}
 
 pub record Snapshot : Type 0 where
   pub facts : List Fact
@@ -35,9 +35,9 @@ abbrev pub newest_facts : List Snapshot → List Fact
 newest_facts [] = []
 newest_facts (snapshot ∷ history) = snapshot.facts
 
-abbrev pub moments_of : Doc → List Snapshot → List Moment
-moments_of doc history =
-    map (λ snapshot. record { conflict_set = conflict_set doc snapshot.facts; pick = snapshot.pick }) history
+abbrev pub moments_of : RuleSystem → List Snapshot → List Moment
+moments_of system history =
+    map (λ snapshot. record { conflict_set = system.instances snapshot.facts; pick = snapshot.pick }) history
 
 abbrev pub newest_conflict_set : List Moment → List Instance
 newest_conflict_set [] = []
@@ -91,9 +91,9 @@ pub record IsRefracted (moments : List Moment) (i : Instance) : Type 0 where
   pub there : AllByRecursion (λ moment. has_instance moment i ≡ true) (later ++ reached ∷ fired_at ∷ [])
 
 -- each pick was in the conflict set of the state before it, and the first state is empty and was reached by no firing
-abbrev pub IsHistory : Doc → List Snapshot → Type 0
-IsHistory doc [] = ⊥
-IsHistory doc (first ∷ []) = (first.facts ≡ []) × (first.pick ≡ None)
-IsHistory doc (newest ∷ before ∷ earlier) =
-    IsFacts newest.facts × IfSome newest.pick (λ i. has instance_cmp (conflict_set doc before.facts) i ≡ true)
-    × IsHistory doc (before ∷ earlier)
+abbrev pub IsHistory : RuleSystem → List Snapshot → Type 0
+IsHistory system [] = ⊥
+IsHistory system (first ∷ []) = (first.facts ≡ []) × (first.pick ≡ None)
+IsHistory system (newest ∷ before ∷ earlier) =
+    IsFacts newest.facts × IfSome newest.pick (λ i. has instance_cmp (system.instances before.facts) i ≡ true)
+    × IsHistory system (before ∷ earlier)

@@ -1,19 +1,20 @@
 -- Turns: what a session does with a batch.
---     Session                  a session between two turns: its state, its history, and how many objects were made
---     session_with s batch     the session with the batch's items taken in order
---     turn_of doc s batch      the turn of a batch, and the session after it
+--     Session                         a session between two turns: its state, its history, and how many objects were
+--                                     made
+--     session_with s batch            the session with the batch's items taken in order
+--     turn_of system s batch          the turn of a batch
+--     session_after system s batch    the session after it
 -- A batch with a change leads to one new state, in which nothing was picked; a firing leads to one new state, a void
 -- one too; facts in the middle of a batch or a block belong to no state.
 -- Source: RIF-PRD, "Operational semantics of a production rule system"; batches of clients and acts are the
 -- project's own (docs/PROFILE.md, "Turns").
 use Rattle.std.specs.Prelude.{ℕ, zero, suc, ◌-◌, List, [], ◌∷◌, fold, length, slice_get, Some, None}
 use Rattle.std.specs.List.{filter_map}
-use Rattle.std.specs.Option.{option_map_or, option_and_then}
+use Rattle.std.specs.Option.{option_and_then}
 use Rattle.std.specs.declared.option.Option.{Option}
 use Rattle.rif_values.specs.declared.fact.Fact.{Fact}
 use Rattle.rif_values.specs.declared.instance.Instance.{Instance}
 use Rattle.rif_values.specs.declared.change.Change.{Change}
-use Rattle.rif_tree.specs.declared.rule.Doc.{Doc}
 use Rattle.rif_values.specs.Facts.{facts_after, net_change}
 use Rattle.session_states.specs.declared.item.Item.{Item}
 use Rattle.session_states.specs.declared.item.Item.TheVariants.{Change as ChangeItem, Fire, Until, Halt, Dispose}
@@ -28,10 +29,10 @@ use Rattle.session_states.specs.declared.turn.Effect.TheVariants.{None as NoEffe
 use Rattle.session_states.specs.declared.turn.Turn.{Turn}
 use Rattle.session_states.specs.Machine.{state_after}
 use Rattle.prd_relation.specs.History.{Snapshot, first_history, newest_facts, moments_of}
-use Rattle.prd_relation.specs.Choice.{rule_of, chosen_instance}
+use Rattle.prd_relation.specs.Choice.{chosen_instance}
+use Rattle.prd_relation.specs.RuleSystem.{RuleSystem}
 use Rattle.rif_actions.specs.declared.changes.Block.{Block}
 use Rattle.rif_actions.specs.declared.changes.Block.TheVariants.{Void as VoidBlock, Changes}
-use Rattle.rif_actions.specs.Blocks.{block_of}
 
 pub record Session : Type 0 where
   pub state : State
@@ -91,13 +92,8 @@ abbrev pub unfired : Act → State → Session → Outcome
 unfired act state session =
     record { act = act; pick = None; effect = NoEffect; session = record session { state = state } }
 
--- the block of an instance, where the facts are these and so many objects were made
-abbrev pub instance_block : Doc → Instance → List Fact → ℕ → Block
-instance_block doc i facts made =
-    option_map_or (λ rule. block_of rule i.row facts made) (rule_of doc i.rule) VoidBlock
-
-abbrev pub block_at : Doc → Session → Instance → Block
-block_at doc session i = instance_block doc i (newest_facts session.history) session.made
+abbrev pub block_at : RuleSystem → Session → Instance → Block
+block_at system session i = system.block i (newest_facts session.history) session.made
 
 -- the facts after a block
 abbrev pub facts_after_block : List Fact → Block → List Fact
@@ -128,32 +124,32 @@ firing_of session next i block =
     }
 
 -- an instance is chosen: it fires where the budget isn't spent
-abbrev pub with_budget : Doc → Session → (ℕ → State) → ℕ → Instance → Outcome
-with_budget doc session next zero i = unfired StoppedLimit Idle session
-with_budget doc session next (suc left) i = firing_of session (next left) i (block_at doc session i)
+abbrev pub with_budget : RuleSystem → Session → (ℕ → State) → ℕ → Instance → Outcome
+with_budget system session next zero i = unfired StoppedLimit Idle session
+with_budget system session next (suc left) i = firing_of session (next left) i (block_at system session i)
 
 -- the outcome of a session that has taken a batch which ends in neither a Halt nor a Dispose
-abbrev pub outcome_in : Doc → Session → State → Option Instance → Outcome
-outcome_in doc session Idle choice = unfired IdleAct Idle session
-outcome_in doc session (Firing left) (Some i) = with_budget doc session Firing left i
-outcome_in doc session (Firing left) None = unfired StoppedQuiet Idle session
-outcome_in doc session (UntilHalt left) (Some i) = with_budget doc session UntilHalt left i
-outcome_in doc session (UntilHalt left) None = unfired Resting (UntilHalt left) session
-outcome_in doc session Disposed choice = unfired DisposedAct Disposed session
+abbrev pub outcome_in : RuleSystem → Session → State → Option Instance → Outcome
+outcome_in system session Idle choice = unfired IdleAct Idle session
+outcome_in system session (Firing left) (Some i) = with_budget system session Firing left i
+outcome_in system session (Firing left) None = unfired StoppedQuiet Idle session
+outcome_in system session (UntilHalt left) (Some i) = with_budget system session UntilHalt left i
+outcome_in system session (UntilHalt left) None = unfired Resting (UntilHalt left) session
+outcome_in system session Disposed choice = unfired DisposedAct Disposed session
 
 -- a Halt or a Dispose at the end of a batch fixes the act, and the machine has the state that it led to
-abbrev pub outcome_after : Doc → Option Act → Session → Outcome
-outcome_after doc (Some act) session = unfired act session.state session
-outcome_after doc None session =
-    outcome_in doc session session.state (chosen_instance doc (moments_of doc session.history))
+abbrev pub outcome_after : RuleSystem → Option Act → Session → Outcome
+outcome_after system (Some act) session = unfired act session.state session
+outcome_after system None session =
+    outcome_in system session session.state (chosen_instance system (moments_of system session.history))
 
-abbrev pub outcome_of : Doc → Session → List Entry → Outcome
-outcome_of doc session batch = outcome_after doc (ending_act batch) (session_with session batch)
+abbrev pub outcome_of : RuleSystem → Session → List Entry → Outcome
+outcome_of system session batch = outcome_after system (ending_act batch) (session_with session batch)
 
-abbrev pub turn_of : Doc → Session → List Entry → Turn
-turn_of doc session batch =
-    let outcome = outcome_of doc session batch in
+abbrev pub turn_of : RuleSystem → Session → List Entry → Turn
+turn_of system session batch =
+    let outcome = outcome_of system session batch in
     record { batch = batch; act = Some outcome.act; pick = outcome.pick; effect = outcome.effect }
 
-abbrev pub session_after : Doc → Session → List Entry → Session
-session_after doc session batch = (outcome_of doc session batch).session
+abbrev pub session_after : RuleSystem → Session → List Entry → Session
+session_after system session batch = (outcome_of system session batch).session

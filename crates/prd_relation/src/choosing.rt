@@ -1,16 +1,17 @@
 //! The choice of the instance that is picked, by the definition's steps. This is the plain way: each step
 //! compares all with all.
 ghost use Rattle.std.specs.Prelude.{◌≡◌, ◌++◌, ◌∷◌, [], map, IfOk, OnOk, if◌then◌else◌};
-ghost use Rattle.prd_relation.specs.Choice.{best_by, chosen_instance, priority_of, unrefracted_instances};
+ghost use Rattle.prd_relation.specs.Choice.{best_by, chosen_instance, unrefracted_instances};
 ghost use Rattle.prd_relation.specs.History.{newest_conflict_set};
 ghost use Rattle.prd_relation.specs.Layout.{candidate_of, is_outranked, is_staler};
+ghost use Rattle.prd_relation.specs.RuleSystem.{system_of};
 ghost use Rattle.std.specs.List.{list_any};
 
 use crate::candidate::Candidate;
 use crate::mark::Mark;
 use crate::plain::Plain;
 use rif_tree::Doc;
-use rif_values::{Instance, OutOfMemory};
+use rif_values::{Instance, OutOfMemory, nth};
 use std::alloc::Global;
 
 /// The instance to be picked next, or None where each instance of the newest conflict set is refracted.
@@ -24,7 +25,7 @@ pub fn choose_plain(
     doc: &Doc,
     history: &Plain,
 ) -> Result<Option<Instance>, OutOfMemory>
-    ensures { IfOk result (λ chosen. chosen ≡ chosen_instance doc.now history.now) }
+    ensures { IfOk result (λ chosen. chosen ≡ chosen_instance (system_of doc.now) history.now) }
 {
     let unrefracted = unrefracted_candidates(alloc, doc, history)?;
     let highest = highest_candidates(alloc, unrefracted.as_slice())?;
@@ -40,7 +41,7 @@ fn unrefracted_candidates(
     doc: &Doc,
     history: &Plain,
 ) -> Result<Vec<Candidate>, OutOfMemory>
-    ensures { IfOk result (λ all. all.items ≡ map (candidate_of doc.now history.now)
+    ensures { IfOk result (λ all. all.items ≡ map (candidate_of (system_of doc.now) history.now)
         (unrefracted_instances history.now (newest_conflict_set history.now))) }
 {
     let instances = history.conflict_set();
@@ -60,7 +61,8 @@ fn push_unrefracted(
     mark: Mark,
 ) -> Result<(), OutOfMemory>
     ensures { OnOk result (all.new.items ≡ all.old.items ++ (if mark.refracted then [] else
-        record { instance = instance.now; priority = priority_of doc.now instance.now.rule; age = mark.age } ∷ [])) }
+        record { instance = instance.now; priority = (system_of doc.now).priority instance.now.rule; age = mark.age }
+        ∷ [])) }
 {
     if !mark.refracted {
         all.push(Candidate {
@@ -77,13 +79,9 @@ fn push_unrefracted(
 ///
 /// Source: RIF-PRD, "Groups".
 pub fn priority(doc: &Doc, number: u32) -> i32
-    ensures { result ≡ priority_of doc.now number }
+    ensures { result ≡ (system_of doc.now).priority number }
 {
-    if number == 0 {
-        return 0;
-    }
-    let place = (number - 1) as usize;
-    match doc.rules.as_slice().get(place) {
+    match nth(doc.rules.as_slice(), number) {
         Some(rule) => rule.priority,
         None => 0,
     }

@@ -3,8 +3,9 @@
 //!
 //! Source: RIF-PRD, "Operational semantics of a production rule system" and "Conflict resolution".
 ghost use Rattle.prd_relation.specs.Laws.{AreAgesSaid, IsRefractionSaid, AreOthersUnaged};
-ghost use Rattle.prd_relation.specs.Laws.{ChoosesUnrefracted, ChoosesBest, ChoosesWhereItCan};
-ghost use Rattle.prd_relation.specs.Laws.{AreFiringsStates, DisposesEnd, IsReplayOne, AreReplaysLawful};
+ghost use Rattle.prd_relation.specs.Laws.{ChoosesUnrefracted, ChoosesLeast, ChoosesBest, ChoosesWhereItCan};
+ghost use Rattle.prd_relation.specs.Laws.{AreFiringsStates, ReachHistories, TellTheirFacts};
+ghost use Rattle.prd_relation.specs.Laws.{DisposesEnd, IsReplayOne, AreReplaysLawful};
 
 /// Law: the age is how many of the newest states in a row have the instance in their conflict sets.
 pub fn ages_count_states_in_a_row()
@@ -26,6 +27,11 @@ pub fn the_chosen_is_unrefracted()
     ensures { ChoosesUnrefracted }
 {}
 
+/// Law: what is chosen is allowed, and each other instance that is allowed is above it.
+pub fn the_chosen_is_the_least_allowed()
+    ensures { ChoosesLeast }
+{}
+
 /// Law: nothing is chosen exactly where each instance of the newest conflict set is refracted.
 pub fn something_is_chosen_where_it_can_be()
     ensures { ChoosesWhereItCan }
@@ -42,6 +48,18 @@ pub fn firings_are_states()
     ensures { AreFiringsStates }
 {}
 
+/// Law: whatever the batches of a run are, what it reaches is a history: its first state is empty, each state
+/// is a set of facts, and each pick was in the conflict set of the state before.
+pub fn runs_reach_histories()
+    ensures { ReachHistories }
+{}
+
+/// Law: the changes and net effects of a run's turns, done in order from no facts on, lead to its newest
+/// state of facts.
+pub fn turns_tell_their_facts()
+    ensures { TellTheirFacts }
+{}
+
 /// Law: no batch of a run follows one that ends in a Dispose.
 pub fn a_dispose_ends_the_run()
     ensures { DisposesEnd }
@@ -52,8 +70,7 @@ pub fn one_replay()
     ensures { IsReplayOne }
 {}
 
-/// Law: where each given batch is lawful, none is empty and none follows one that disposes, the batches of
-/// a replay are those of a run.
+/// Law: where the given batches are lawful, the batches of a replay are those of a run.
 pub fn replays_are_lawful()
     ensures { AreReplaysLawful }
 {}

@@ -1,6 +1,9 @@
 //! What a run means, and the plain program that runs it: it lists each conflict set from scratch, and
 //! stays plain, so that faster programs can be held against it.
 //!
+//! Definitions and laws speak of a rule system and not of a document: `system_of` makes the rule system of a
+//! document, and is the one place at which a document comes in (`specs/RuleSystem.antt`).
+//!
 //! | File | Has | Its words |
 //! |---|---|---|
 //! | `moment.rt`, `mark.rt`, `plain.rt` | `Plain`, the history as its conflict sets | `specs/History.antt` |

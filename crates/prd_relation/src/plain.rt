@@ -2,9 +2,9 @@ ghost use Rattle.std.specs.Prelude.{◌≡◌, ◌<◌, ◌∷◌, map, length, 
 ghost use Rattle.std.specs.Prelude.{slice_get};
 ghost use Rattle.rif_values.specs.InstanceOrder.{instance_cmp};
 ghost use Rattle.rif_values.specs.Sets.{has};
-ghost use Rattle.rif_match.specs.ConflictSet.{conflict_set};
 ghost use Rattle.prd_relation.specs.History.{first_history, moments_of, newest_conflict_set, is_pick};
 ghost use Rattle.prd_relation.specs.Layout.{mark_of, next_mark};
+ghost use Rattle.prd_relation.specs.RuleSystem.{system_of};
 
 use crate::mark::Mark;
 use crate::moment::Moment;
@@ -47,7 +47,7 @@ impl Plain {
     /// The history of the empty state of facts alone, from which each run starts. It lists that state's
     /// conflict set.
     pub fn start(alloc: Global, doc: &Doc) -> Result<Plain, OutOfMemory>
-        ensures { IfOk result (λ plain. plain ≡ moments_of doc.now first_history) }
+        ensures { IfOk result (λ plain. plain ≡ moments_of (system_of doc.now) first_history) }
     {
         let conflict_set = list_instances(alloc, doc, &Facts::new(alloc))?;
         let mut marks = Vec::new(alloc);
@@ -78,7 +78,7 @@ impl Plain {
         pick: Option<Instance>,
     ) -> Result<(), OutOfMemory>
         ensures ok { OnOk result (self.new
-            ≡ record { conflict_set = conflict_set doc.now facts.now; pick = pick } ∷ self.old) }
+            ≡ record { conflict_set = (system_of doc.now).instances facts.now; pick = pick } ∷ self.old) }
         ensures err { OnErr result (self.new ≡ self.old) }
     {
         let conflict_set = list_instances(alloc, doc, facts)?;

@@ -1,5 +1,7 @@
 ghost use Rattle.std.specs.Prelude.{◌≡◌, ◌<◌, ◌≤◌, ◌^◌, ◌∷◌, List, IfOk, OnOk, true, false};
 ghost use Rattle.session_states.specs.declared.item.Entry.{Entry};
+ghost use Rattle.prd_relation.specs.FactsOfTurns.{fact_count_of};
+ghost use Rattle.prd_relation.specs.RuleSystem.{system_of};
 ghost use Rattle.prd_relation.specs.Runs.{IsReplay, run_of, facts_at_end};
 ghost use Rattle.prd_relation.specs.Turns.{Session, state_with};
 ghost use Rattle.prd_relation.specs.Session.{Shows, budget_of};
@@ -27,8 +29,9 @@ pub struct PlainRun {
 /// Source: RIF-PRD, "Operational semantics of a production rule system"; batches are our own
 /// (docs/PROFILE.md, "Turns").
 pub fn replay_plain(alloc: Global, doc: &Doc, batches: Vec<Batch>) -> Result<PlainRun, OutOfMemory>
-    ensures { IfOk result (λ run. (all : List (List Entry)) × IsReplay doc.now batches.items all
-        × (run.turns ≡ run_of doc.now all) × (run.facts ≡ facts_at_end doc.now all)) }
+    ensures { IfOk result (λ run. (all : List (List Entry)) × IsReplay (system_of doc.now) batches.items all
+        × (run.turns ≡ run_of (system_of doc.now) all) × (run.facts ≡ facts_at_end (system_of doc.now) all)
+        × (run.facts ≡ fact_count_of run.turns)) }
 {
     let mut left = VecDeque::from_vec(batches);
     let mut session = PlainSession::start(alloc, doc)?;
@@ -51,8 +54,8 @@ fn make_turns(
     turns: &mut Vec<Turn>,
 ) -> Result<(), OutOfMemory>
     ensures { (given left : List (List Entry))
-        → IsReplayed doc.now given (batch ∷ left) false turns.old.items session.old
-        → OnOk result (IsReplayed doc.now given left false turns.new.items session.new) }
+        → IsReplayed (system_of doc.now) given (batch ∷ left) false turns.old.items session.old
+        → OnOk result (IsReplayed (system_of doc.now) given left false turns.new.items session.new) }
 {
     let mut fired = make_turn(alloc, doc, batch, session, turns)?;
     while fired {
@@ -69,8 +72,9 @@ fn make_turn(
     session: &mut PlainSession,
     turns: &mut Vec<Turn>,
 ) -> Result<bool, OutOfMemory>
-    ensures next { (s : Session) → Shows doc.now session.old s
-        → IfOk result (λ fired. IsNextTurn doc.now s batch fired turns.old.items turns.new.items session.new) }
+    ensures next { (s : Session) → Shows (system_of doc.now) session.old s
+        → IfOk result
+        (λ fired. IsNextTurn (system_of doc.now) s batch fired turns.old.items turns.new.items session.new) }
     ensures lowers { IfOk result (λ fired. fired ≡ true
         → budget_of session.new.state < budget_of (state_with session.old.state batch)) }
 {

@@ -2,7 +2,9 @@ ghost use Rattle.std.specs.Prelude.{◌≡◌, ◌≤◌, ◌^◌};
 
 use crate::choosing::choose_plain;
 use crate::plain::Plain;
-use crate::steps::{block_of_instance, changes_of, effect_of, ending, facts_after, made_after, state_after};
+use crate::steps::{
+    block_of_instance, changes_of, effect_of, ending, facts_after, made_after, state_after,
+};
 use rif_facts::Facts;
 use rif_tree::Doc;
 use rif_values::{Instance, OutOfMemory};
@@ -35,13 +37,14 @@ impl PlainSession {
     ghost use Rattle.prd_relation.specs.Turns.{outcome_after, ending_act, firing_of, block_at, turn_of};
     ghost use Rattle.prd_relation.specs.Turns.{session_after};
     ghost use Rattle.prd_relation.specs.Choice.{chosen_instance};
+    ghost use Rattle.prd_relation.specs.RuleSystem.{system_of};
     ghost use Rattle.prd_relation.specs.History.{moments_of};
     ghost use Rattle.prd_relation.specs.Session.{Shows, Settles, Lowers, budget_of};
     ghost use Rattle.prd_relation.specs.Endings.{NeverFires};
 
     /// An idle session with no facts.
     pub fn start(alloc: Global, doc: &Doc) -> Result<PlainSession, OutOfMemory>
-        ensures { IfOk result (λ plain. Shows doc.now plain first_session) }
+        ensures { IfOk result (λ plain. Shows (system_of doc.now) plain first_session) }
     {
         Ok(PlainSession {
             state: State::Idle,
@@ -53,10 +56,10 @@ impl PlainSession {
 
     /// Makes the turn of a batch. After want of memory the session is spent.
     pub fn turn(&mut self, alloc: Global, doc: &Doc, batch: Batch) -> Result<Turn, OutOfMemory>
-        ensures turn { (s : Session) → Shows doc.now self.old s
-            → IfOk result (λ turn. turn ≡ turn_of doc.now s batch) }
-        ensures shows { (s : Session) → Shows doc.now self.old s
-            → OnOk result (Shows doc.now self.new (session_after doc.now s batch)) }
+        ensures turn { (s : Session) → Shows (system_of doc.now) self.old s
+            → IfOk result (λ turn. turn ≡ turn_of (system_of doc.now) s batch) }
+        ensures shows { (s : Session) → Shows (system_of doc.now) self.old s
+            → OnOk result (Shows (system_of doc.now) self.new (session_after (system_of doc.now) s batch)) }
         ensures lowers { IfOk result (λ turn. turn.act ≡ Some Fired
             → budget_of self.new.state < budget_of (state_with self.old.state batch)) }
     {
@@ -72,8 +75,8 @@ impl PlainSession {
 
     // Takes the items of a batch in order.
     fn take(&mut self, alloc: Global, doc: &Doc, batch: &[Entry]) -> Result<(), OutOfMemory>
-        ensures shows { (s : Session) → Shows doc.now self.old s
-            → OnOk result (Shows doc.now self.new (session_with s batch.now)) }
+        ensures shows { (s : Session) → Shows (system_of doc.now) self.old s
+            → OnOk result (Shows (system_of doc.now) self.new (session_with s batch.now)) }
         ensures state { OnOk result (self.new.state ≡ state_with self.old.state batch.now) }
     {
         self.state = state_after(self.state, batch);
@@ -95,10 +98,10 @@ impl PlainSession {
         ending: Option<Act>,
     ) -> Result<Settled, OutOfMemory>
         requires { NeverFires ending }
-        ensures settles { (s : Session) → Shows doc.now self.old s
-            → IfOk result (λ settled. Settles settled (outcome_after doc.now ending s)) }
-        ensures shows { (s : Session) → Shows doc.now self.old s
-            → OnOk result (Shows doc.now self.new (outcome_after doc.now ending s).session) }
+        ensures settles { (s : Session) → Shows (system_of doc.now) self.old s
+            → IfOk result (λ settled. Settles settled (outcome_after (system_of doc.now) ending s)) }
+        ensures shows { (s : Session) → Shows (system_of doc.now) self.old s
+            → OnOk result (Shows (system_of doc.now) self.new (outcome_after (system_of doc.now) ending s).session) }
         ensures lowers { IfOk result
             (λ settled. Lowers settled (budget_of self.old.state) (budget_of self.new.state)) }
     {
@@ -109,12 +112,14 @@ impl PlainSession {
     }
 
     fn act(&mut self, alloc: Global, doc: &Doc) -> Result<Settled, OutOfMemory>
-        ensures settles { (s : Session) → Shows doc.now self.old s
+        ensures settles { (s : Session) → Shows (system_of doc.now) self.old s
             → IfOk result (λ settled. Settles settled
-            (outcome_in doc.now s s.state (chosen_instance doc.now (moments_of doc.now s.history)))) }
-        ensures shows { (s : Session) → Shows doc.now self.old s
-            → OnOk result (Shows doc.now self.new
-            (outcome_in doc.now s s.state (chosen_instance doc.now (moments_of doc.now s.history))).session) }
+            (outcome_in (system_of doc.now) s s.state
+            (chosen_instance (system_of doc.now) (moments_of (system_of doc.now) s.history)))) }
+        ensures shows { (s : Session) → Shows (system_of doc.now) self.old s
+            → OnOk result (Shows (system_of doc.now) self.new
+            (outcome_in (system_of doc.now) s s.state
+            (chosen_instance (system_of doc.now) (moments_of (system_of doc.now) s.history))).session) }
         ensures lowers { IfOk result
             (λ settled. Lowers settled (budget_of self.old.state) (budget_of self.new.state)) }
     {
@@ -154,10 +159,12 @@ impl PlainSession {
         instance: Instance,
         next: State,
     ) -> Result<Settled, OutOfMemory>
-        ensures settles { (s : Session) → Shows doc.now self.old s
-            → IfOk result (λ settled. Settles settled (firing_of s next instance (block_at doc.now s instance))) }
-        ensures shows { (s : Session) → Shows doc.now self.old s
-            → OnOk result (Shows doc.now self.new (firing_of s next instance (block_at doc.now s instance)).session) }
+        ensures settles { (s : Session) → Shows (system_of doc.now) self.old s
+            → IfOk result (λ settled. Settles settled
+            (firing_of s next instance (block_at (system_of doc.now) s instance))) }
+        ensures shows { (s : Session) → Shows (system_of doc.now) self.old s
+            → OnOk result (Shows (system_of doc.now) self.new
+            (firing_of s next instance (block_at (system_of doc.now) s instance)).session) }
         ensures state { OnOk result (self.new.state ≡ next) }
     {
         let block = block_of_instance(alloc, doc, &instance, &self.facts, self.made)?;

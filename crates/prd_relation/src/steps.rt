@@ -1,17 +1,16 @@
 //! The steps of a turn that need no session.
 ghost use Rattle.std.specs.Prelude.{◌≡◌, ◌≤◌, ◌^◌, ◌++◌, IfOk, OnOk};
 ghost use Rattle.prd_relation.specs.Turns.{state_with, changes_in, change_of, ending_act, ending_item};
-ghost use Rattle.prd_relation.specs.Turns.{facts_after_block, effect_of_block, made_after_block, instance_block};
-ghost use Rattle.prd_relation.specs.Choice.{rule_of};
+ghost use Rattle.prd_relation.specs.Turns.{facts_after_block, effect_of_block, made_after_block};
+ghost use Rattle.prd_relation.specs.RuleSystem.{system_of};
 ghost use Rattle.prd_relation.specs.Endings.{NeverFires};
 ghost use Rattle.rif_actions.specs.Uses.{HasMadeAtMost};
-ghost use Rattle.std.specs.Option.{option_copied, option_to_list};
+ghost use Rattle.std.specs.Option.{option_to_list};
 
-use rif_actions::Block;
-use rif_actions::block;
+use rif_actions::{Block, block};
 use rif_facts::Facts;
-use rif_tree::{Doc, Rule};
-use rif_values::{Change, Instance, OutOfMemory};
+use rif_tree::Doc;
+use rif_values::{Change, Instance, OutOfMemory, nth};
 use session_states::{Act, Effect, Entry, Item, State, after};
 use std::alloc::Global;
 
@@ -77,23 +76,13 @@ pub fn block_of_instance(
     made: u64,
 ) -> Result<Block, OutOfMemory>
     requires { made ≤ 2 ^ 63 }
-    ensures block { IfOk result (λ block. block ≡ instance_block doc.now instance.now facts.now made) }
+    ensures block { IfOk result (λ block. block ≡ (system_of doc.now).block instance.now facts.now made) }
     ensures counted { IfOk result (HasMadeAtMost (2 ^ 63)) }
 {
-    match rule_at(doc, instance.rule) {
+    match nth(doc.rules.as_slice(), instance.rule) {
         Some(rule) => block(alloc, rule, &instance.row, facts, made),
         None => Ok(Block::Void),
     }
-}
-
-/// The rule of a number, counted from 1.
-pub fn rule_at(doc: &Doc, number: u32) -> Option<&Rule>
-    ensures { option_copied result ≡ rule_of doc.now number }
-{
-    if number == 0 {
-        return None;
-    }
-    doc.rules.get(number as usize - 1)
 }
 
 /// The facts after a block.

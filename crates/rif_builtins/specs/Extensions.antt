@@ -3,15 +3,15 @@
 --     FactBase                   what a condition is matched against: the facts of a state
 --     base_of facts              the base that has these facts
 --     matchable base             the facts that patterns are matched against
---     match_fact p row f         the row that extends the row by the pattern's variables and gives the pattern's terms,
---                                from left to right, the fact's constants as values, if there is one
+--     match_fact p row f         the row that extends the row by the pattern's variables and gives the pattern's
+--                                terms, from left to right, the fact's constants as values, if there is one
 --     matched base p rows        the rows taken through a pattern: each with each fact that agrees
 --     through base f rows        the rows taken through the formula
 --     extensions_of base row f   the rows that extend the row and satisfy the formula, in order without repeats
 -- Source: RIF-PRD, "Matching substitution" and "Condition satisfaction". In a ready order (docs/PROFILE.md,
 -- "Ready order") each term that a row is asked for has its variables bound.
-use Rattle.std.specs.Prelude.{ℕ, Bool, false, ◌==◌, not, List, [], ◌∷◌, map, filter, length, Some, None, if◌then◌else◌}
-use Rattle.std.specs.List.{flat_map, filter_map, list_any}
+use Rattle.std.specs.Prelude.{ℕ, Bool, false, ◌==◌, List, [], ◌∷◌, map, filter, length, Some, None, if◌then◌else◌}
+use Rattle.std.specs.List.{flat_map, filter_map}
 use Rattle.std.specs.Option.{option_and_then}
 use Rattle.std.specs.declared.option.Option.{Option}
 use Rattle.rif_values.specs.declared.constant.Const.{Const}
@@ -20,16 +20,21 @@ use Rattle.rif_values.specs.declared.fact.Fact.TheVariants.{Atom, Frame, Member}
 use Rattle.rif_tree.specs.declared.builtin.Pred.{Pred}
 use Rattle.rif_tree.specs.declared.tree.Term.{Term}
 use Rattle.rif_tree.specs.declared.tree.Formula.{Formula}
-use Rattle.rif_tree.specs.declared.tree.Formula.TheOpen.{Formula-F, And as AndLayer, Or as OrLayer, Not as NotLayer, Exists as ExistsLayer, Equal as EqualLayer, Member as MemberLayer, Frame as FrameLayer, Atom as AtomLayer, Holds as HoldsLayer}
+use Rattle.rif_tree.specs.declared.tree.Formula.TheOpen.{Formula-F, And as AndLayer, Or as OrLayer, Not as NotLayer}
+use Rattle.rif_tree.specs.declared.tree.Formula.TheOpen.{Exists as ExistsLayer, Equal as EqualLayer}
+use Rattle.rif_tree.specs.declared.tree.Formula.TheOpen.{Member as MemberLayer, Frame as FrameLayer}
+use Rattle.rif_tree.specs.declared.tree.Formula.TheOpen.{Atom as AtomLayer, Holds as HoldsLayer}
 use Rattle.rif_tree.specs.declared.tree.Formula.TheFolds.{fold-Formula}
 use Rattle.rif_builtins.specs.declared.pattern.Pattern.{Pattern}
-use Rattle.rif_builtins.specs.declared.pattern.Pattern.TheVariants.{Atom as AtomPattern, Slot as SlotPattern, Member as MemberPattern}
+use Rattle.rif_builtins.specs.declared.pattern.Pattern.TheVariants.{Atom as AtomPattern, Slot as SlotPattern}
+use Rattle.rif_builtins.specs.declared.pattern.Pattern.TheVariants.{Member as MemberPattern}
 use Rattle.rif_values.specs.Bindings.{Row, value_at, bound, without_variables}
 use Rattle.rif_values.specs.Order.{binding_cmp}
 use Rattle.rif_values.specs.Facts.{same_const}
 use Rattle.rif_values.specs.Sets.{ordered}
 use Rattle.rif_builtins.specs.Builtins.{pred_value}
-use Rattle.rif_builtins.specs.Values.{value_of, values_of, variable_of}
+use Rattle.rif_tree.specs.Variables.{variable_of}
+use Rattle.rif_builtins.specs.Values.{value_of, values_of}
 
 -- what a condition is matched against
 pub record FactBase : Type 0 where

@@ -2,7 +2,7 @@
 --     value_of row t        a term's value, where it has one
 --     values_of row ts      the values of some terms, where each has one
 -- Source: RIF-PRD, "Terms" and "Matching substitution".
-use Rattle.std.specs.Prelude.{ℕ, List, [], ◌∷◌, map, nat_lt, Some, None, if◌then◌else◌}
+use Rattle.std.specs.Prelude.{List, [], ◌∷◌, map, Some, None}
 use Rattle.std.specs.Option.{option_map}
 use Rattle.std.specs.declared.option.Option.{Option}
 use Rattle.rif_tree.specs.declared.builtin.Func.{Func}
@@ -23,7 +23,8 @@ abbrev pub call_value : Func → Option (List Const) → Option Const
 call_value func None = None
 call_value func (Some arguments) = func_value func arguments
 
--- a constant is its own value, a variable has that of the row, and a call that of its function at its arguments' values
+-- a constant is its own value, a variable has that of the row, and a call that of its function at its arguments'
+-- values
 abbrev pub value_step : Row → Term-F (Option Const) → Option Const
 value_step row (ConstLayer c) = Some c
 value_step row (VarLayer v) = value_at row v
@@ -34,12 +35,3 @@ value_of row = fold-Term (Option Const) (value_step row)
 
 abbrev pub values_of : Row → List Term → Option (List Const)
 values_of row terms = all_of (map (value_of row) terms)
-
--- the variable that a term is, where it is one
-abbrev pub variable_step : Term-F (Option ℕ) → Option ℕ
-variable_step (ConstLayer c) = None
-variable_step (VarLayer v) = Some v
-variable_step (CallLayer func arguments) = None
-
-abbrev pub variable_of : Term → Option ℕ
-variable_of = fold-Term (Option ℕ) variable_step

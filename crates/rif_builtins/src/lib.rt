@@ -3,13 +3,16 @@
 //!
 //! | File | Has | Its words |
 //! |---|---|---|
-//! | `valuing.rt`, `builtins.rt` | values of terms, and the place of the built-ins | `specs/Values.antt`, `specs/Builtins.antt` |
+//! | `valuing.rt` | values of terms | `specs/Values.antt` |
+//! | `builtins.rt` | the place of the built-ins | `specs/Builtins.antt` |
 //! | `pattern.rt`, `matching.rt` | `Pattern`, one pattern against one fact | `specs/Extensions.antt` |
+//! | `laws.rt` | what the words of extensions promise | `specs/ExtensionLaws.antt` |
 //!
 //! Begin at `fact_match`.
 #![tactic(auto)]
 
 mod builtins;
+pub mod laws;
 mod matching;
 mod pattern;
 mod valuing;

@@ -53,7 +53,8 @@ fn two_match(
     second: &Term,
     other: &Const,
 ) -> Result<Option<Binding>, OutOfMemory>
-    ensures { IfOk result (λ found. found ≡ match_terms (first.now ∷ second.now ∷ []) row.now (one.now ∷ other.now ∷ [])) }
+    ensures { let terms = first.now ∷ second.now ∷ [] in
+        IfOk result (λ found. found ≡ match_terms terms row.now (one.now ∷ other.now ∷ [])) }
 {
     match term_match(alloc, row, first, one)? {
         Some(row) => term_match(alloc, &row, second, other),

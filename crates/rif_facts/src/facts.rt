@@ -4,9 +4,8 @@ ghost use Rattle.rif_values.specs.Facts.{IsFacts, has_fact, same_fact, is_slot_v
 ghost use Rattle.rif_values.specs.Order.{fact_cmp};
 ghost use Rattle.rif_values.specs.Sets.{beyond};
 
-use rif_values::are_same;
 use rif_sets::find_in_set;
-use rif_values::{Change, Const, Delta, Fact, Listed, OutOfMemory};
+use rif_values::{Change, Const, Delta, Fact, Listed, OutOfMemory, are_same};
 use std::alloc::Global;
 use std::marker::Model;
 

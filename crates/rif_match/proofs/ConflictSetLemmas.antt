@@ -16,7 +16,7 @@ use Rattle.rif_values.specs.InstanceOrder.{instance_cmp}
 use Rattle.rif_values.specs.Order.{binding_cmp}
 use Rattle.rif_values.specs.Sets.{IsSet}
 use Rattle.rif_values.specs.Bindings.{Row}
-use Rattle.rif_builtins.specs.Extensions.{in_turn, through}
+use Rattle.rif_builtins.specs.Extensions.{FactBase, base_of, through}
 use Rattle.rif_match.specs.ConflictSet.{condition_of, rows_of, instance_of, instances_from, conflict_set}
 
 -- what holds of each of two lists' elements holds of each of both
@@ -48,17 +48,19 @@ unfolding IsStrictlySortedBy
 set_of_rows n [] s = tt
 set_of_rows n (row ∷ rows) s = (below_of_row n row rows s.0, set_of_rows n rows s.1)
 
-rule_is : (n m : ℕ) (rows : List Row) → n ≤ m → AllByRecursion (λ (z : Instance). n ≤ z.rule) (map (instance_of m) rows)
+rule_is : (n m : ℕ) (rows : List Row) → n ≤ m → AllByRecursion (λ (z : Instance). n ≤ z.rule)
+    (map (instance_of m) rows)
 rule_is n m [] up = tt
 rule_is n m (row ∷ rows) up = (up, rule_is n m rows up)
 
 -- the instances of rules from a number on have at least that number
-from_number : (n m : ℕ) (rules : List Rule) (w : List Fact) → n ≤ m
-    → AllByRecursion (λ (z : Instance). n ≤ z.rule) (instances_from m rules w)
-from_number n m [] w up = tt
-from_number n m (rule ∷ rules) w up =
-    all_append (λ (z : Instance). n ≤ z.rule) (map (instance_of m) (rows_of w rule)) (instances_from (suc m) rules w)
-    (rule_is n m (rows_of w rule) up) (from_number n (suc m) rules w (omega arith))
+from_number : (n m : ℕ) (rules : List Rule) (base : FactBase) → n ≤ m
+    → AllByRecursion (λ (z : Instance). n ≤ z.rule) (instances_from m rules base)
+from_number n m [] base up = tt
+from_number n m (rule ∷ rules) base up =
+    all_append (λ (z : Instance). n ≤ z.rule) (map (instance_of m) (rows_of base rule))
+    (instances_from (suc m) rules base)
+    (rule_is n m (rows_of base rule) up) (from_number n (suc m) rules base (omega arith))
 
 below_later : (n : ℕ) (row : Row) (zs : List Instance) → AllByRecursion (λ (z : Instance). suc n ≤ z.rule) zs
     → AllByRecursion (λ z. instance_cmp (instance_of n row) z ≡ Less) zs
@@ -68,23 +70,24 @@ below_later n row (z ∷ zs) later = (
   below_later n row zs later.1,
 )
 
-rows_below_later : (n : ℕ) (rows : List Row) (zs : List Instance) → AllByRecursion (λ (z : Instance). suc n ≤ z.rule) zs
+rows_below_later : (n : ℕ) (rows : List Row) (zs : List Instance)
+    → AllByRecursion (λ (z : Instance). suc n ≤ z.rule) zs
     → AllByRecursion (λ x. AllByRecursion (λ z. instance_cmp x z ≡ Less) zs) (map (instance_of n) rows)
 rows_below_later n [] zs later = tt
 rows_below_later n (row ∷ rows) zs later = (below_later n row zs later, rows_below_later n rows zs later)
 
-set_of_rule : (w : List Fact) (rule : Rule) → IsSet binding_cmp (rows_of w rule)
-set_of_rule w rule = set_ordered total_bindings exact_bindings (in_turn (map (through w) (condition_of rule)) ([] ∷ []))
+set_of_rule : (base : FactBase) (rule : Rule) → IsSet binding_cmp (rows_of base rule)
+set_of_rule base rule = set_ordered total_bindings exact_bindings (through base (condition_of rule) ([] ∷ []))
 
-set_from : (n : ℕ) (rules : List Rule) (w : List Fact) → IsSet instance_cmp (instances_from n rules w)
+set_from : (n : ℕ) (rules : List Rule) (base : FactBase) → IsSet instance_cmp (instances_from n rules base)
 unfolding IsStrictlySortedBy
-set_from n [] w = tt
-set_from n (rule ∷ rules) w =
-    set_append instance_cmp (map (instance_of n) (rows_of w rule)) (instances_from (suc n) rules w)
-    (set_of_rows n (rows_of w rule) (set_of_rule w rule)) (set_from (suc n) rules w)
-    (rows_below_later n (rows_of w rule) (instances_from (suc n) rules w)
-    (from_number (suc n) (suc n) rules w (omega arith)))
+set_from n [] base = tt
+set_from n (rule ∷ rules) base =
+    set_append instance_cmp (map (instance_of n) (rows_of base rule)) (instances_from (suc n) rules base)
+    (set_of_rows n (rows_of base rule) (set_of_rule base rule)) (set_from (suc n) rules base)
+    (rows_below_later n (rows_of base rule) (instances_from (suc n) rules base)
+    (from_number (suc n) (suc n) rules base (omega arith)))
 
 -- a conflict set is in order without repeats
 pub conflict_set_is_set : (doc : Doc) (w : List Fact) → IsSet instance_cmp (conflict_set doc w)
-conflict_set_is_set doc w = set_from 1 doc.rules w
+conflict_set_is_set doc w = set_from 1 doc.rules (base_of w)

@@ -1,3 +1,4 @@
+pub mod CallerLemmas
 pub mod ConflictSetLemmas
 pub mod ListingLemmas
-pub mod ThroughLemmas
+pub mod MembershipLemmas

@@ -1,5 +1,5 @@
 -- The conflict set of a state of facts: every instance whose condition is satisfied there, in order, each once.
---     condition_of rule        the rule's condition: its `such that` formulas and its `If` formula, as one conjunction
+--     condition_of rule        the rule's condition: the conjunction of its `such that` formulas and its `If` formula
 --     rows_of base rule        the values of the rule's variables that satisfy its condition
 --     conflict_set doc w       the instances of all rules
 -- Source: RIF-PRD, "Operational semantics of a production rule system" and "Definitions and notational conventions".

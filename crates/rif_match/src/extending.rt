@@ -64,7 +64,8 @@ pub fn rows_through_each(
     members: &[Formula],
     rows: Vec<Binding>,
 ) -> Result<Vec<Binding>, OutOfMemory>
-    ensures { IfOk result (λ found. found.items ≡ in_turn (map (through (base_of facts.now)) members.now) rows.items) }
+    ensures { IfOk result
+        (λ found. found.items ≡ in_turn (map (through (base_of facts.now)) members.now) rows.items) }
 {
     let mut found = rows;
     for member in members {
@@ -81,7 +82,8 @@ fn rows_through_any(
     branches: &[Formula],
     rows: &[Binding],
 ) -> Result<Vec<Binding>, OutOfMemory>
-    ensures { IfOk result (λ found. found.items ≡ flat_map (λ branch. through (base_of facts.now) branch rows.now) branches.now) }
+    ensures { IfOk result
+        (λ found. found.items ≡ flat_map (λ branch. through (base_of facts.now) branch rows.now) branches.now) }
 {
     let mut all = Vec::new(alloc);
     for branch in branches {
@@ -100,7 +102,9 @@ fn rows_outside(
     inner: &Formula,
     rows: &[Binding],
 ) -> Result<Vec<Binding>, OutOfMemory>
-    ensures { IfOk result (λ found. found.items ≡ filter (λ row. length (through (base_of facts.now) inner.now (row ∷ [])) == 0) rows.now) }
+    ensures { IfOk result
+        (λ found. found.items
+        ≡ filter (λ row. length (through (base_of facts.now) inner.now (row ∷ [])) == 0) rows.now) }
 {
     let mut all = Vec::new(alloc);
     for row in rows {
@@ -166,7 +170,9 @@ fn rows_through_slots(
     pairs: &[(Term, Term)],
     rows: Vec<Binding>,
 ) -> Result<Vec<Binding>, OutOfMemory>
-    ensures { IfOk result (λ found. found.items ≡ in_turn (map (matched (base_of facts.now)) (slots_of object.now pairs.now)) rows.items) }
+    ensures { IfOk result
+        (λ found. found.items
+        ≡ in_turn (map (matched (base_of facts.now)) (slots_of object.now pairs.now)) rows.items) }
 {
     let mut found = rows;
     for pair in pairs {

@@ -6,7 +6,7 @@
 //! |---|---|---|
 //! | `extending.rt`, `gathering.rt` | rows taken through formulas | rif_builtins `specs/Extensions.antt` |
 //! | `listing.rt` | `matches`, `list_instances`: the conflict set | `specs/ConflictSet.antt` |
-//! | `laws.rt` | a law of conflict sets | `specs/Laws.antt` |
+//! | `laws.rt` | laws of conflict sets | `specs/Laws.antt` |
 //!
 //! Begin at `list_instances`.
 #![tactic(auto)]
@@ -16,5 +16,5 @@ mod gathering;
 mod laws;
 mod listing;
 
-pub use laws::conflict_sets_are_sets;
+pub use laws::{conflict_sets_are_sets, instances_are_rules_with_their_rows};
 pub use listing::{list_instances, matches};

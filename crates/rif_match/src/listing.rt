@@ -87,7 +87,9 @@ fn rows_through_levels(
     levels: &[Level],
     rows: Vec<Binding>,
 ) -> Result<Vec<Binding>, OutOfMemory>
-    ensures { IfOk result (λ found. found.items ≡ in_turn (map (through (base_of facts.now)) (flat_map (λ level. level.such_that) levels.now)) rows.items) }
+    ensures { IfOk result
+        (λ found. found.items ≡ in_turn
+        (map (through (base_of facts.now)) (flat_map (λ level. level.such_that) levels.now)) rows.items) }
 {
     let mut found = rows;
     for level in levels {
@@ -103,7 +105,9 @@ fn rows_through_condition(
     condition: &Option<Formula>,
     rows: Vec<Binding>,
 ) -> Result<Vec<Binding>, OutOfMemory>
-    ensures { IfOk result (λ found. found.items ≡ in_turn (map (through (base_of facts.now)) (option_to_list condition.now)) rows.items) }
+    ensures { IfOk result
+        (λ found. found.items
+        ≡ in_turn (map (through (base_of facts.now)) (option_to_list condition.now)) rows.items) }
 {
     match condition {
         Some(formula) => rows_through(alloc, facts, formula, rows),

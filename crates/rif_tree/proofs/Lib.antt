@@ -1,1 +1,4 @@
+pub mod CallerLemmas
 pub mod FreeLemmas
+pub mod ReadyLemmas
+pub mod ScopedLemmas

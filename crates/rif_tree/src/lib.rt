@@ -21,6 +21,6 @@ mod rule;
 mod tree;
 
 pub use builtin::{Func, Pred};
-pub use laws::parts_have_what_is_free;
+pub use laws::{parts_have_what_is_free, readiness_grows, readiness_is_of_members, scope_is_of_members};
 pub use rule::{Action, Decl, Doc, Rule, Target};
 pub use tree::{Formula, Level, Term};

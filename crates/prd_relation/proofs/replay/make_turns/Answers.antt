@@ -1,5 +1,6 @@
 use Rattle.std.proofs.Common.{◌≡◌, ◌<◌, ◌+◌, ℕ, Bool, true, false, cond, List, subst, sym, refl, arith}
 use Rattle.session_states.specs.declared.item.Entry.{Entry}
+use Rattle.prd_relation.specs.RuleSystem.{system_of}
 use Rattle.prd_relation.specs.Session.{budget_of}
 use Rattle.prd_relation.specs.Turns.{state_with}
 use Rattle.prd_relation.specs.Replay.{IsReplayed, IsNextTurn}
@@ -12,19 +13,19 @@ falls false less before lowers = omega arith
 
 pub loop-fired-init : goal.loop-fired-init
 loop-fired-init c = λ given left replayed.
-    next_given c.args.doc.now given left c.in_ok-fired.fired c.args.batch c.args.turns.now.items
+    next_given (system_of c.args.doc.now) given left c.in_ok-fired.fired c.args.batch c.args.turns.now.items
     c.make_turn.new.turns.items
     c.args.session.now c.make_turn.new.session replayed (λ s shown. c.in_ok-fired.ensures.next s shown)
 
 pub loop-fired-preserved : goal.loop-fired-preserved
 loop-fired-preserved c = λ given left replayed.
-    next_empty c.args.doc.now given left c.in_ok-fired-2.fired c.loop-fired.turns.items
+    next_empty (system_of c.args.doc.now) given left c.in_ok-fired-2.fired c.loop-fired.turns.items
     c.make_turn-in-loop-fired.new.turns.items
     c.loop-fired.session c.make_turn-in-loop-fired.new.session
-    (subst (λ (fired : Bool). IsReplayed c.args.doc.now given left fired c.loop-fired.turns.items
+    (subst (λ (fired : Bool). IsReplayed (system_of c.args.doc.now) given left fired c.loop-fired.turns.items
     c.loop-fired.session)
     c.loop-fired-test.true (c.loop-fired.invariant given left replayed))
-    (λ s shown. subst (λ (batch : List Entry). IsNextTurn c.args.doc.now s batch c.in_ok-fired-2.fired
+    (λ s shown. subst (λ (batch : List Entry). IsNextTurn (system_of c.args.doc.now) s batch c.in_ok-fired-2.fired
     c.loop-fired.turns.items
     c.make_turn-in-loop-fired.new.turns.items c.make_turn-in-loop-fired.new.session) c.new.ensures
     (c.in_ok-fired-2.ensures.next s shown))
@@ -40,5 +41,6 @@ loop-fired-smaller c =
 
 pub returns : goal.returns
 returns c = λ given left replayed.
-    subst (λ (fired : Bool). IsReplayed c.args.doc.now given left fired c.loop-fired.turns.items c.loop-fired.session)
+    subst (λ (fired : Bool). IsReplayed (system_of c.args.doc.now) given left fired c.loop-fired.turns.items
+    c.loop-fired.session)
     c.loop-fired-test.false (c.loop-fired.invariant given left replayed)

@@ -1,7 +1,7 @@
 use Rattle.std.proofs.Common.{[], refl}
 use Rattle.session_states.specs.declared.item.Entry.{Entry}
 use Rattle.prd_relation.specs.Turns.{change_of}
-use Rattle.prd_relation.proofs.GatheringLemmas.{found_step}
+use Rattle.rif_values.proofs.CallerLemmas.{found_step}
 use Rattle.prd_relation.proofs.steps.changes_of.Goals as goal
 
 pub loop-entry-preserved : goal.loop-entry-preserved

@@ -1,6 +1,6 @@
 use Rattle.std.proofs.Common.{length, ◌==◌, [], ◌∷◌}
-use Rattle.rif_builtins.specs.Extensions.{through}
-use Rattle.rif_match.proofs.ThroughLemmas.{through_or}
+use Rattle.rif_builtins.specs.Extensions.{base_of, through}
+use Rattle.rif_builtins.proofs.CallerLemmas.{through_or}
 use Rattle.rif_values.proofs.CallerLemmas.{kept_step}
 use Rattle.rif_match.proofs.extending.+through.Goals as goal
 
@@ -11,7 +11,7 @@ rows_through-returns-in-Or t c =
 
 pub rows_outside-loop-row-preserved : goal.rows_outside-loop-row-preserved
 rows_outside-loop-row-preserved t c =
-    kept_step (λ row. length (through c.args.facts.now c.args.inner.now (row ∷ [])) == 0) c.args.rows.now
+    kept_step (λ row. length (through (base_of c.args.facts.now) c.args.inner.now (row ∷ [])) == 0) c.args.rows.now
     c.loop-row.row-index c.row-item.result
     c.in_ok-kept.kept c.loop-row.all.items c.push_kept.new.all.items c.loop-row-test.true c.row-item.is
     c.in_ok-kept.ensures

@@ -1,7 +1,7 @@
 use Rattle.std.proofs.Common.{◌≡◌, ◌∙◌, List, [], ◌∷◌, ◌++◌, ap}
 use Rattle.rif_values.specs.declared.fact.Fact.{Fact}
 use Rattle.rif_values.specs.Bindings.{Row}
-use Rattle.rif_builtins.specs.Extensions.{through}
+use Rattle.rif_builtins.specs.Extensions.{base_of, through}
 use Rattle.rif_match.proofs.ListingLemmas.{ordered_rows}
 use Rattle.rif_match.proofs.listing.matches.Goals as goal
 
@@ -11,7 +11,9 @@ returns c =
     let one : c.push.new.self.items ≡ c.args.row.now ∷ [] =
     c.in_ok-push.ensures.items ∙ ap (λ (rows : List Row). rows ++ c.in_ok-copy.field-0 ∷ []) c.new-one.ensures.items
     ∙ ap (λ (row : Row). row ∷ []) c.in_ok-copy.ensures in
-    ordered_rows c.sorted_set.result c.in_ok-found.found.items (through c.args.facts.now formula (c.args.row.now ∷ []))
-    (c.in_ok-found.ensures ∙ ap (λ (w : List Fact). through w formula c.push.new.self.items) c.as_slice.ensures.facts
-    ∙ ap (through c.args.facts.now formula) one)
+    ordered_rows c.sorted_set.result c.in_ok-found.found.items
+    (through (base_of c.args.facts.now) formula (c.args.row.now ∷ []))
+    (c.in_ok-found.ensures ∙ ap (λ (w : List Fact). through (base_of w) formula c.push.new.self.items)
+    c.as_slice.ensures.facts
+    ∙ ap (through (base_of c.args.facts.now) formula) one)
     c.sorted_set.ensures

@@ -1,0 +1,45 @@
+//! What the words of extensions promise. Each law is the clause of a function with an empty body, and its statement
+//! stands in specs/ExtensionLaws.antt.
+//!
+//! Source: RIF-PRD, "Matching substitution" and "Condition satisfaction".
+ghost use Rattle.rif_builtins.specs.ExtensionLaws.{IsEvaluationBinding, IsMatchingExact, IsEqualityExact};
+ghost use Rattle.rif_builtins.specs.ExtensionLaws.{IsOneByOne, IsOfBoth, GoesByForm, IsSetOfExtensions};
+
+/// Law: where a formula is ready for the variables of a row, and none is declared where it holds already, each
+/// extension of the row has values for exactly the row's variables and the formula's free ones, and keeps the row's
+/// values.
+pub fn evaluation_binds()
+    ensures { IsEvaluationBinding }
+{}
+
+/// Law: a pattern that is ready for a row matches a fact to the one row that extends the row by exactly the pattern's
+/// variables, and under which the pattern's terms have the fact's constants as values.
+pub fn a_match_is_the_one_binding()
+    ensures { IsMatchingExact }
+{}
+
+/// Law: an equality that is ready for a row takes it to the one row that extends it by exactly the variables of both
+/// sides, and under which both sides have the same value. Where both sides have their values, this is the row itself.
+pub fn an_equality_is_the_one_binding()
+    ensures { IsEqualityExact }
+{}
+
+/// Law: which rows a formula gives, form by form.
+pub fn formulas_go_by_form()
+    ensures { GoesByForm }
+{}
+
+/// Law: what a formula gives of some rows is what it gives of each of them.
+pub fn rows_are_taken_one_by_one()
+    ensures { IsOneByOne }
+{}
+
+/// Law: what a formula gives of two lists of rows together is what it gives of either.
+pub fn lists_are_taken_together()
+    ensures { IsOfBoth }
+{}
+
+/// Law: the extensions of a row are in order without repeats, and are the rows that the formula gives.
+pub fn extensions_are_a_set()
+    ensures { IsSetOfExtensions }
+{}
