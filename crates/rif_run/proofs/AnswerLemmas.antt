@@ -4,7 +4,7 @@ use Rattle.rif_refusals.specs.declared.refusal.Refusal.{Refusal}
 use Rattle.session_states.specs.declared.item.Entry.{Entry}
 use Rattle.prd_relation.specs.Laws.{IsReplayOne}
 use Rattle.prd_relation.specs.RuleSystem.{system_of}
-use Rattle.prd_reader.specs.Canonical.{canonical_text}
+use Rattle.prd_writing.specs.Canonical.{canonical_text}
 use Rattle.rif_script.specs.declared.job.Job.{Job}
 use Rattle.rif_script.specs.Cutting.{batches_of_entries, script_entries}
 use Rattle.rif_script.specs.Jobs.{OneOutcome}

@@ -3,7 +3,7 @@ use Rattle.std.proofs.Common.{◌≡◌, ◌<◌, ℕ, zero, suc, Bool, true, fa
 use Rattle.std.proofs.Common.{length, refl, sym, ap, subst, arith}
 use Rattle.std.specs.Prelude.{bytes_eq}
 use Rattle.std.proofs.lemmas.Slice.Eq.{bytes_eq-Decides}
-use Rattle.prd_reader.specs.Prefixes.{Prefixes}
+use Rattle.prd_grammar.specs.Prefixes.{Prefixes}
 use Rattle.rif_tree.specs.Rules.{name_of}
 use Rattle.session_states.specs.declared.item.Item.{Item}
 use Rattle.rif_script.specs.JobClients.{JobsHaveClients}
