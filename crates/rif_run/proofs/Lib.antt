@@ -1,3 +1,5 @@
+pub mod AnswerLemmas
+pub mod CompletenessLemmas
+pub mod RunLemmas
 pub mod WordLemmas
 pub mod WritingLemmas
-pub mod CompletenessLemmas

@@ -1,4 +1,8 @@
 -- What the program answers to an input.
+--     IsTextFor command input text         what a command makes of an input
+--     IsRefusedTo command input refusal    what refuses an input to a command
+--     IsAnswerTo command input s text      the answer to an input is this text with this status
+--     OneAnswer                            law: an input and a command have one answer at most
 -- Source: the project's own (docs/FORMATS.md, "Words" and "Statuses").
 use Rattle.std.specs.Prelude.{◌≡◌, ℕ, List}
 use Rattle.rif_refusals.specs.declared.fault.Fault.{Fault}
@@ -11,8 +15,9 @@ use Rattle.rif_script.specs.RefusalLine.{refusal_line}
 use Rattle.rif_run.specs.declared.command.Command.{Command}
 use Rattle.rif_run.specs.declared.command.Command.TheVariants.{Check, Run}
 use Rattle.rif_run.specs.declared.status.Status.{Status}
-use Rattle.rif_run.specs.declared.status.Status.TheVariants.{Done, Refused as RefusedStatus, Usage, ReadFault, WriteFault, OutOfMemory}
-use Rattle.rif_run.specs.Job.{IsRunRefused, IsRunText}
+use Rattle.rif_run.specs.declared.status.Status.TheVariants.{Done, Refused as RefusedStatus, Usage, ReadFault}
+use Rattle.rif_run.specs.declared.status.Status.TheVariants.{WriteFault, OutOfMemory}
+use Rattle.rif_run.specs.Runs.{IsRunRefused, IsRunText}
 
 -- the text is the canonical text of the document of the job that an input is
 abbrev pub IsCheckText : List ℕ → List ℕ → Type 0
@@ -35,7 +40,8 @@ RefusesTo command input (RefusedFault refusal) = IsRefusedTo command input refus
 
 -- the line of the refusal of an input
 abbrev pub IsRefusalText : Command → List ℕ → List ℕ → Type 0
-IsRefusalText command input text = (refusal : Refusal) × IsRefusedTo command input refusal × (text ≡ refusal_line refusal)
+IsRefusalText command input text =
+    (refusal : Refusal) × IsRefusedTo command input refusal × (text ≡ refusal_line refusal)
 
 -- the answer to an input is this text with this status: what the command makes of it, or the line of its refusal
 abbrev pub IsAnswerTo : Command → List ℕ → Status → List ℕ → Type 0
@@ -45,3 +51,8 @@ IsAnswerTo command input Usage text = ⊥
 IsAnswerTo command input ReadFault text = ⊥
 IsAnswerTo command input WriteFault text = ⊥
 IsAnswerTo command input OutOfMemory text = ⊥
+
+-- Law: two answers of a command to an input have the same status and the same text.
+abbrev pub OneAnswer : Type 0
+OneAnswer = (command : Command) (input : List ℕ) (a b : Status) (s t : List ℕ)
+    → IsAnswerTo command input a s → IsAnswerTo command input b t → (a ≡ b) × (s ≡ t)

@@ -1,7 +1,7 @@
 pub mod Answer
 pub mod Commands
-pub mod Job
 pub mod Reading
-pub mod Run
+pub mod Runs
 pub mod Statuses
+pub mod Top
 pub mod Writing

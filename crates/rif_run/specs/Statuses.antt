@@ -1,4 +1,8 @@
 -- How a run of the program ends.
+--     status_code s             what the process ends with
+--     IsAnswered s              the input was answered
+--     IsDoneOrNoMemory s        the command did what it is for, or no memory was found
+--     IsRefusedOrNoMemory s     the input has a refusal, or no memory was found
 -- Source: the project's own (docs/FORMATS.md, "Statuses").
 use Rattle.std.specs.Prelude.{ℕ}
 use Rattle.rif_run.specs.declared.status.Status.{Status}
@@ -30,3 +34,12 @@ IsDoneOrNoMemory Refused = ⊥
 IsDoneOrNoMemory Usage = ⊥
 IsDoneOrNoMemory ReadFault = ⊥
 IsDoneOrNoMemory WriteFault = ⊥
+
+-- the status says that the input has a refusal, or that no memory was found
+abbrev pub IsRefusedOrNoMemory : Status → Type 0
+IsRefusedOrNoMemory Refused = Unit {0}
+IsRefusedOrNoMemory OutOfMemory = Unit {0}
+IsRefusedOrNoMemory Done = ⊥
+IsRefusedOrNoMemory Usage = ⊥
+IsRefusedOrNoMemory ReadFault = ⊥
+IsRefusedOrNoMemory WriteFault = ⊥

@@ -1,9 +1,10 @@
 ghost use Rattle.std.specs.Prelude.{IfErr, IfOk};
-ghost use Rattle.rif_script.specs.Cutting.{HasItsClients};
-ghost use Rattle.rif_run.specs.Job.{IsRunOf, IsRunText, RefusesRun};
+ghost use Rattle.rif_run.specs.Runs.{IsRunOf, IsRunText, RefusesRun};
 
+use prd_relation::laws::replays_are_lawful;
 use prd_relation::replay_plain;
 use rif_refusals::{Fault, Refusal};
+use rif_script::laws::cut_is_lawful;
 use rif_script::{Job, batches_of, read_job, simple_job, write_run};
 use rif_values::OutOfMemory;
 use std::alloc::Global;
@@ -22,10 +23,12 @@ pub fn run_text(alloc: Global, bytes: &[u8]) -> Result<Vec<u8>, Fault>
     Ok(text_of_job(alloc, &job)?)
 }
 
+// The text of a job's run. That its batches are those of a run follows from the two laws.
 fn text_of_job(alloc: Global, job: &Job) -> Result<Vec<u8>, OutOfMemory>
-    requires { HasItsClients job.now }
     ensures { IfOk result (λ text. IsRunOf job.now text.items) }
 {
+    cut_is_lawful();
+    replays_are_lawful();
     let (batches, left) = batches_of(alloc, job)?;
     let run = replay_plain(alloc, &job.doc, batches)?;
     let mut text = Vec::new(alloc);

@@ -1,4 +1,4 @@
-ghost use Rattle.std.specs.Prelude.{◌≡◌, ◌-◌, ◌<◌, ◌^◌};
+ghost use Rattle.std.specs.Prelude.{◌≡◌, ◌-◌, ◌<◌, ◌^◌, ◌++◌, [], IfOk, IfSome, IsTrue, OnErr, take, true};
 ghost use Rattle.std.specs.Io.{ReadsAtMost};
 ghost use Rattle.std.specs.Io.KnownBytes.{ReadConsumes};
 ghost use Rattle.rif_script.specs.Faults.{CountsFaults};
@@ -12,6 +12,8 @@ use std::alloc::Global;
 pub struct Kept<S> {
     source: S,
     bytes: Vec<u8>,
+    /// Whether the bytes are all that was taken: memory was found for it each time.
+    is_whole: bool,
 }
 
 impl<S: Source> Kept<S> {
@@ -19,16 +21,25 @@ impl<S: Source> Kept<S> {
     pub fn new(alloc: Global, source: S) -> Kept<S>
         ensures left { ⟦<Kept<S> as Source>⟧.left result ≡ S.left source }
         ensures faults { ⟦<Kept<S> as Source>⟧.faults result ≡ S.faults source }
+        ensures whole { result.is_whole ≡ true }
+        ensures bytes { result.bytes.items ≡ [] }
     {
         Kept {
             source,
             bytes: Vec::new(alloc),
+            is_whole: true,
         }
     }
 
-    /// What was taken.
-    pub fn bytes(&self) -> &[u8] {
-        self.bytes.as_slice()
+    /// All that was taken, and None where no memory was found for some of it.
+    pub fn bytes(&self) -> Option<&[u8]>
+        ensures { IfSome result (λ bytes. IsTrue self.now.is_whole × (bytes.now ≡ self.now.bytes.items)) }
+    {
+        if self.is_whole {
+            Some(self.bytes.as_slice())
+        } else {
+            None
+        }
     }
 }
 
@@ -42,9 +53,17 @@ impl<S: Source> Source for Kept<S> {
         ensures bound { ReadsAtMost result buf.new }
         ensures bytes { ReadConsumes (S.left self.old.source) (S.left self.new.source) result buf.new }
         ensures cause { CountsFaults (S.faults self.old.source) (S.faults self.new.source) result }
+
+        // What was taken comes to what was kept; and where all that was taken is kept, it was before too.
+        ensures keeps { IfOk result (λ count. IsTrue self.new.is_whole → IsTrue self.old.is_whole
+            × (self.new.bytes.items ≡ self.old.bytes.items ++ take count buf.new)) }
+        ensures keeps_on { OnErr result
+            ((self.new.is_whole ≡ self.old.is_whole) × (self.new.bytes.items ≡ self.old.bytes.items)) }
     {
         let count = self.source.take(buf)?;
-        let _ = self.bytes.extend_from_slice(&buf[..count]);
+        if self.is_whole {
+            self.is_whole = self.bytes.extend_from_slice(&buf[..count]).is_ok();
+        }
         Ok(count)
     }
 }

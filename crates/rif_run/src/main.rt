@@ -4,15 +4,16 @@
 //! | File | Has | Its words |
 //! |---|---|---|
 //! | `command_line.rt` | the words that the program was started with | |
-//! | `top.rt` | `rif_run`, the call that does all that the program does | `specs/Run.antt` |
+//! | `top.rt` | `rif_run`, the call that does all that the program does | `specs/Top.antt` |
 //! | `command.rt` | `Command`, what the words tell the program to do | `specs/Commands.antt` |
 //! | `status.rt` | `Status`, how a run ends | `specs/Statuses.antt` |
 //! | `reading.rt` | the input, read to its end or to its limit | `specs/Reading.antt` |
 //! | `writing.rt` | a text, written whole | `specs/Writing.antt` |
 //! | `answer.rt` | `Answer`, what is written for an input | `specs/Answer.antt` |
-//! | `job.rt` | the text of a run from the bytes of a job | `specs/Job.antt` |
+//! | `job.rt` | the text of a run from the bytes of a job | `specs/Runs.antt` |
 //! | `check.rt` | the canonical text of a document from the bytes of a job | `specs/Answer.antt` |
 //! | `kept.rt` | `Kept`, a source that keeps what was taken of it | |
+//! | `laws.rt` | that an input and a command have one answer | `specs/Answer.antt` |
 //! | `note.rt` | what is said of a refusal in words | |
 //!
 //! Begin at `top::rif_run`.
@@ -24,6 +25,7 @@ mod command;
 mod command_line;
 mod job;
 mod kept;
+pub mod laws;
 mod note;
 mod reading;
 mod status;
@@ -52,8 +54,10 @@ fn main(rt: HostRuntime) -> ExitCode {
     if let Some(message) = status.message() {
         let _ = eprintln!(rt; "{message}");
     }
-    if status == Status::Refused {
-        explain_refusal(&rt, alloc, source.bytes());
+    if status == Status::Refused
+        && let Some(input) = source.bytes()
+    {
+        explain_refusal(&rt, alloc, input);
     }
     ExitCode::from(status.code())
 }

@@ -1,7 +1,7 @@
 use prd_explain::{explain, explain_line};
 use rif_lex::tokens;
-use rif_script::{doc_part, read_job};
 use rif_refusals::{Fault, Refusal};
+use rif_script::{doc_part, read_job};
 use rif_values::OutOfMemory;
 use std::alloc::Global;
 

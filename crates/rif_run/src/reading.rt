@@ -1,8 +1,8 @@
 ghost use Rattle.std.specs.Prelude.{◌≡◌, ◌-◌, ◌<◌, ◌^◌, IfOk, IsErrOf, IsOkUnless, OnOk, vec_len};
 ghost use Rattle.rif_run.specs.Reading.{ReadsFront};
 
-use rif_script::{Failed, Source};
 use rif_refusals::limits::MOST_INPUT_BYTES;
+use rif_script::{Failed, Source};
 use std::alloc::{AllocError, Global};
 
 /// The most bytes that a run reads: one more than an input may have, by which one that is too long
@@ -54,6 +54,7 @@ pub fn read_up_to<S: Source>(
         ReadsFront most (S.left source.old) (S.left source.new) input.items) }
     ensures stands { OnOk result (S.faults source.new ≡ S.faults source.old) }
     ensures failed { IsErrOf result ReadError.Failed → S.faults source.old < S.faults source.new }
+    ensures no_memory { IsErrOf result ReadError.OutOfMemory → S.faults source.new ≡ S.faults source.old }
 {
     let mut zeros = zeros(alloc, CHUNK_BYTES)?;
     let chunk = zeros.as_mut_slice();

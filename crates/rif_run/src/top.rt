@@ -1,7 +1,7 @@
 ghost use Rattle.std.specs.Prelude.{◌≡◌, ◌-◌, ◌<◌, ◌^◌, ◌↔◌, IsTrue};
 ghost use Rattle.rif_run.specs.Commands.{AreAccepted};
-ghost use Rattle.rif_run.specs.Run.{AreTaken, WritesAnswer, WritesFrontOfAnswer};
-ghost use Rattle.rif_run.specs.Statuses.{IsAnswered, IsDoneOrNoMemory};
+ghost use Rattle.rif_run.specs.Statuses.{IsAnswered, IsDoneOrNoMemory, IsRefusedOrNoMemory};
+ghost use Rattle.rif_run.specs.Top.{AreRefused, AreTaken, WritesAnswer, WritesFrontOfAnswer};
 
 use crate::answer::answer_to;
 use crate::command::command_of;
@@ -32,7 +32,8 @@ pub fn rif_run<S: Source, K: Sink>(
     ensures untouched { result ≡ Status.Usage → (src.new ≡ src.old) × (out.new ≡ out.old) }
     ensures read_fault { result ≡ Status.ReadFault →
         (S.faults src.old < S.faults src.new) × (out.new ≡ out.old) }
-    ensures out_of_memory { result ≡ Status.OutOfMemory → out.new ≡ out.old }
+    ensures out_of_memory { result ≡ Status.OutOfMemory →
+        (S.faults src.new ≡ S.faults src.old) × (out.new ≡ out.old) }
     ensures write_fault { result ≡ Status.WriteFault →
         (K.faults out.old < K.faults out.new)
         × WritesFrontOfAnswer words.now.items (S.left src.old) (S.left src.new) (K.written out.old) (K.written out.new) }
@@ -46,6 +47,10 @@ pub fn rif_run<S: Source, K: Sink>(
     // A command, an input that it is for, and no fault lead to `Done`, where memory suffices.
     ensures complete { AreTaken words.now.items (S.left src.old) → S.faults src.new ≡ S.faults src.old
         → K.faults out.new ≡ K.faults out.old → IsDoneOrNoMemory result }
+
+    // A command, an input that is refused to it, and no fault lead to `Refused`, where memory suffices.
+    ensures refused { AreRefused words.now.items (S.left src.old) → S.faults src.new ≡ S.faults src.old
+        → K.faults out.new ≡ K.faults out.old → IsRefusedOrNoMemory result }
 {
     let Some(command) = command_of(words) else {
         return Status::Usage;

@@ -5,7 +5,7 @@ use Rattle.std.proofs.Common.{inl, inr}
 use Rattle.std.specs.Prelude.{Ok, Err}
 use Rattle.std.specs.declared.result.Result.{Result}
 use Rattle.std.proofs.lemmas.Bool.Decides.{nat_tests}
-use Rattle.rif_refusals.specs.declared.limits.TheConstants.{MOST_BUDGETS, MOST_CLIENTS, MOST_ITEMS}
+use Rattle.rif_refusals.specs.Limits.{most_budgets, most_clients, most_items}
 use Rattle.rif_refusals.specs.declared.refusal.Refusal.{Refusal}
 use Rattle.rif_refusals.specs.declared.refusal.Refusal.TheVariants.{TooManyClients}
 use Rattle.rif_refusals.specs.declared.fault.Fault.{Fault}
@@ -52,23 +52,23 @@ new_place names v high = sym (place_at_end names v (unknown names v high))
 
 pub one_too_many : (at place : ℕ) (names : List (List ℕ)) (v : List ℕ) → place ≡ place_of names v →
     length names ≤ place →
-    MOST_CLIENTS ≤ place → client_with at names v ≡ Err (TooManyClients at)
+    most_clients ≤ place → client_with at names v ≡ Err (TooManyClients at)
 one_too_many at place names v is high full =
     let past = subst (λ (n : ℕ). length names ≤ n) is high in
     let new = unknown names v past in
-    let size : MOST_CLIENTS ≤ length names =
-    subst (λ (n : ℕ). MOST_CLIENTS ≤ n) (is ∙ sym (new_place names v past)) full in
-    rw (new, is_full MOST_CLIENTS (length names) size) refl
+    let size : most_clients ≤ length names =
+    subst (λ (n : ℕ). most_clients ≤ n) (is ∙ sym (new_place names v past)) full in
+    rw (new, is_full most_clients (length names) size) refl
 
 pub new_client : (at place : ℕ) (names more : List (List ℕ)) (v : List ℕ) → place ≡ place_of names v →
     length names ≤ place →
-    place < MOST_CLIENTS → more ≡ names ++ v ∷ [] → client_with at names v ≡ Ok (place, more)
+    place < most_clients → more ≡ names ++ v ∷ [] → client_with at names v ≡ Ok (place, more)
 new_client at place names more v is high low pushed =
     let past = subst (λ (n : ℕ). length names ≤ n) is high in
     let new = unknown names v past in
-    let room : length names < MOST_CLIENTS =
-    subst (λ (n : ℕ). n < MOST_CLIENTS) (is ∙ sym (new_place names v past)) low in
-    rw (new, has_room MOST_CLIENTS (length names) room)
+    let room : length names < most_clients =
+    subst (λ (n : ℕ). n < most_clients) (is ∙ sym (new_place names v past)) low in
+    rw (new, has_room most_clients (length names) room)
     (ap (λ (n : ℕ). Ok (n, names ++ v ∷ [])) (sym is) ∙ ap (λ (ns : List (List ℕ)). Ok (place, ns)) (sym pushed))
 
 same_ok : {A E : Type 0} (r : Result A E) (a b : A) → r ≡ Ok a → r ≡ Ok b → a ≡ b
@@ -85,11 +85,11 @@ same_script n m i j b d names items budgets = cc
 pub sent_by_steps : (at : ℕ) (s : Script) (one : List ℕ × Item) →
     with_sent at s one ≡ and_then (room_for at s one.1) (with_room at s one)
 unfolding with_sent
-sent_by_steps at s one = elim (either (nat_lt MOST_BUDGETS (s.budgets + budget_of one.1))) [
+sent_by_steps at s one = elim (either (nat_lt most_budgets (s.budgets + budget_of one.1))) [
   | inl above ↦ rw above refl
-  | inr below ↦ elim (either (nat_le MOST_ITEMS (length s.items))) [
+  | inr below ↦ elim (either (nat_le most_items (length s.items))) [
     | inl full ↦ rw (below, full) refl
-    | inr free ↦ elim (either (not (has_name s.names one.0) && nat_le MOST_CLIENTS (length s.names))) [
+    | inr free ↦ elim (either (not (has_name s.names one.0) && nat_le most_clients (length s.names))) [
       | inl many ↦ rw (below, free, many) refl
       | inr few ↦ rw (below, free, few) refl
     ]

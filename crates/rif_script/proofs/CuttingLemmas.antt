@@ -3,7 +3,7 @@ use Rattle.std.proofs.Common.{◌≡◌, ℕ, ◌<◌, ◌+◌, ◌==◌, ◌||�
 use Rattle.std.proofs.Common.{ap, ◌∙◌, append_assoc, cond, subst, arith, length-append}
 use Rattle.std.proofs.lemmas.Bool.{eqb-false}
 use Rattle.std.proofs.lemmas.List.{append-nil, nil_from_length}
-use Rattle.rif_refusals.specs.declared.limits.TheConstants.{MOST_BATCH_ITEMS}
+use Rattle.rif_refusals.specs.Limits.{most_batch_items}
 use Rattle.session_states.specs.declared.item.Item.{Item}
 use Rattle.session_states.specs.declared.item.Item.TheVariants.{Change, Fire, Until, Halt, Dispose}
 use Rattle.session_states.specs.declared.item.Entry.{Entry}
@@ -130,13 +130,13 @@ changes_last (e ∷ []) changes = tt
 changes_last (e ∷ next ∷ begun) changes = (ends_no_batch e.item changes.0, changes_last (next ∷ begun) changes.1)
 
 -- changes, and any entry behind them, are a lawful batch
-pub lawful_closed : (begun batch : List Entry) (entry : Entry) → length begun < MOST_BATCH_ITEMS → AreChanges begun →
+pub lawful_closed : (begun batch : List Entry) (entry : Entry) → length begun < most_batch_items → AreChanges begun →
     batch ≡ begun ++ entry ∷ [] → IsLawful batch
 lawful_closed begun batch entry room changes pushed =
     subst IsLawful (sym pushed)
     (record { few = omega (arith, length-append begun (entry ∷ [])); ends_last = ends_last begun entry changes })
 
-pub lawful_begun : (begun : List Entry) → length begun < MOST_BATCH_ITEMS → AreChanges begun → IsLawful begun
+pub lawful_begun : (begun : List Entry) → length begun < most_batch_items → AreChanges begun → IsLawful begun
 lawful_begun begun room changes = record { few = omega arith; ends_last = changes_last begun changes }
 
 pub neither : (a b : Bool) → (a || b) ≡ false → (a ≡ false) × (b ≡ false)
@@ -149,15 +149,15 @@ pub changes_joined : (begun more : List Entry) (entry : Entry) → AreChanges be
 changes_joined begun more entry changes ends pushed =
     subst AreChanges (sym pushed)
     (AreChanges-snoc begun entry changes
-    (neither (is_control entry.item) (length begun + 1 == MOST_BATCH_ITEMS) ends).0)
+    (neither (is_control entry.item) (length begun + 1 == most_batch_items) ends).0)
 
 -- and it leaves room
-pub room_joined : (begun more : List Entry) (entry : Entry) → length begun < MOST_BATCH_ITEMS →
+pub room_joined : (begun more : List Entry) (entry : Entry) → length begun < most_batch_items →
     ends_behind (length begun) entry.item ≡ false → more ≡ begun ++ entry ∷ [] →
-    length more < MOST_BATCH_ITEMS
+    length more < most_batch_items
 room_joined begun more entry room ends pushed =
-    let other = eqb-false (length begun + 1) MOST_BATCH_ITEMS
-    (neither (is_control entry.item) (length begun + 1 == MOST_BATCH_ITEMS) ends).1 in
+    let other = eqb-false (length begun + 1) most_batch_items
+    (neither (is_control entry.item) (length begun + 1 == most_batch_items) ends).1 in
     let long : length more ≡ length begun + 1 = ap length pushed ∙ length-append begun (entry ∷ []) in
     omega (arith, long, other)
 

@@ -5,7 +5,7 @@ use Rattle.std.proofs.Common.{[], ◌∷◌, drop, length, length-drop, arith, i
 use Rattle.std.specs.Prelude.{Ok, Err, IfErr, IfOk}
 use Rattle.std.specs.Str.{IsValidUpTo}
 use Rattle.std.specs.declared.result.Result.{Result}
-use Rattle.rif_refusals.specs.declared.limits.TheConstants.{MOST_INPUT_BYTES}
+use Rattle.rif_refusals.specs.Limits.{most_input_bytes}
 use Rattle.rif_refusals.specs.declared.refusal.Refusal.TheVariants.{InputTooLong, NotUtf8}
 use Rattle.rif_refusals.specs.declared.fault.Fault.{Fault}
 use Rattle.rif_refusals.specs.declared.fault.Fault.TheVariants.{Refused, OutOfMemory}
@@ -22,10 +22,10 @@ use Rattle.rif_script.specs.ReadingLines.{no_lines, with_lines}
 use Rattle.rif_script.proofs.ScriptReadingLemmas.{script_read, script_refused}
 
 -- an input that is too long, and one that is UTF-8 up to a byte alone
-pub long_refused : (bytes : List ℕ) → MOST_INPUT_BYTES < length bytes → RefusesJob bytes (Refused InputTooLong)
+pub long_refused : (bytes : List ℕ) → most_input_bytes < length bytes → RefusesJob bytes (Refused InputTooLong)
 long_refused bytes long = inl (refl, long)
 
-pub broken_refused : (bytes : List ℕ) (at : ℕ) → length bytes ≤ MOST_INPUT_BYTES → IsValidUpTo bytes at →
+pub broken_refused : (bytes : List ℕ) (at : ℕ) → length bytes ≤ most_input_bytes → IsValidUpTo bytes at →
     RefusesJob bytes (Refused (NotUtf8 at))
 broken_refused bytes at short valid = inr (inl (at, refl, short, valid))
 
@@ -132,7 +132,7 @@ few_before (line ∷ lines) =
     ]
 
 -- the numbers of a script's lines stay small
-pub numbers_fit : (bytes script : List ℕ) (at from : ℕ) → length bytes ≤ MOST_INPUT_BYTES →
+pub numbers_fit : (bytes script : List ℕ) (at from : ℕ) → length bytes ≤ most_input_bytes →
     at ≡ first_script_line bytes → script ≡ drop from bytes → at + length script < 2 ^ 64
 numbers_fit bytes script at from short first is =
     let lines = few_lines bytes in

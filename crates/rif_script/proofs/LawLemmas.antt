@@ -1,13 +1,16 @@
 -- What the cut of a script keeps.
 use Rattle.std.proofs.Common.{zero, suc, lit<, ◌≡◌, ◌≢◌, ℕ, ◌<◌, ◌+◌, ◌==◌, ◌||◌, Bool, true, false, List, [], ◌∷◌}
-use Rattle.std.proofs.Common.{◌++◌, length, refl, sym, ap, ◌∙◌, cond, subst, take, drop, length-append}
-use Rattle.rif_refusals.specs.declared.limits.TheConstants.{MOST_BATCH_ITEMS}
+use Rattle.std.proofs.Common.{◌++◌, ◌-◌, length, refl, sym, ap, ◌∙◌, cond, subst, take, drop, length-append}
+use Rattle.std.proofs.Common.{Some, slice_get, arith}
+use Rattle.std.specs.Option.{option_map_or}
+use Rattle.std.specs.declared.option.Option.{Option}
+use Rattle.rif_refusals.specs.Limits.{most_batch_items}
 use Rattle.session_states.specs.declared.item.Item.{Item}
 use Rattle.session_states.specs.declared.item.Entry.{Entry}
-use Rattle.session_states.specs.Batches.{IsLawful}
-use Rattle.rif_script.specs.Cutting.{batches_behind, ends_behind, is_control, is_dispose, served_count, with_first}
-use Rattle.rif_script.specs.CuttingLaws.{AreEnded, AreCutLawfully, ControlsLast, CutEndsBatches, CutIsLawful}
-use Rattle.rif_script.specs.CuttingLaws.{CutKeepsAll, joined, last_passes}
+use Rattle.session_states.specs.Batches.{AreLawfulBatches, AreLawfulBehind, IsLawful, ends_in, is_dispose}
+use Rattle.session_states.specs.Batches.{is_disposing, joined}
+use Rattle.rif_script.specs.Cutting.{batches_behind, ends_behind, is_control, served_count, with_first}
+use Rattle.rif_script.specs.CuttingLaws.{AreEnded, ControlsLast, CutEndsBatches, CutIsLawful, CutKeepsAll}
 use Rattle.rif_script.proofs.CuttingLemmas.{AreChanges, AreChanges-snoc, batches_after, batches_where, closes}
 use Rattle.rif_script.proofs.CuttingLemmas.{goes_on, joined_first-alone, lawful_begun, lawful_closed, neither}
 use Rattle.rif_script.proofs.CuttingLemmas.{room_joined}
@@ -59,11 +62,18 @@ served_disposes_last [] = tt
 served_disposes_last (entry ∷ entries) =
     served_by entry entries (is_dispose entry.item) refl (served_disposes_last entries)
 
-last_passes-snoc : (test : Item → Bool) (begun : List Entry) (entry : Entry) →
-    last_passes test (begun ++ entry ∷ []) ≡ test entry.item
-last_passes-snoc test [] entry = refl
-last_passes-snoc test (e ∷ []) entry = refl
-last_passes-snoc test (e ∷ next ∷ begun) entry = last_passes-snoc test (next ∷ begun) entry
+last_at : (begun : List Entry) (entry : Entry) → slice_get (begun ++ entry ∷ []) (length begun) ≡ Some entry
+last_at [] entry = refl
+last_at (e ∷ begun) entry = last_at begun entry
+
+-- a batch ends in its last entry
+ends_in-snoc : (test : Item → Bool) (begun : List Entry) (entry : Entry) →
+    ends_in test (begun ++ entry ∷ []) ≡ test entry.item
+ends_in-snoc test begun entry =
+    let size : length (begun ++ entry ∷ []) ≡ length begun + 1 = length-append begun (entry ∷ []) in
+    let place : length (begun ++ entry ∷ []) - 1 ≡ length begun = omega (arith, size) in
+    ap (λ (o : Option Entry). option_map_or (λ (e : Entry). test e.item) o false)
+    (ap (slice_get (begun ++ entry ∷ [])) place ∙ last_at begun entry)
 
 not_empty : (begun : List Entry) (entry : Entry) → begun ++ entry ∷ [] ≢ []
 not_empty [] entry same = cc
@@ -73,37 +83,37 @@ some_entry : (entry : Entry) (begun : List Entry) → entry ∷ begun ≢ []
 some_entry entry begun same = cc
 
 lawful_before : (batch : List Entry) (batches : List (List Entry)) → IsLawful batch → batch ≢ [] →
-    last_passes is_dispose batch ≡ false → AreCutLawfully batches → AreCutLawfully (batch ∷ batches)
-lawful_before batch [] lawful some other rest = (lawful, some)
-lawful_before batch (next ∷ batches) lawful some other rest = (lawful, some, other, rest)
+    is_disposing batch ≡ false → AreLawfulBatches batches → AreLawfulBatches (batch ∷ batches)
+lawful_before batch batches lawful some other rest =
+    (lawful, some, refl, subst (λ (d : Bool). AreLawfulBehind d batches) (sym other) rest)
 
-lawful_last : (begun : List Entry) → length begun < MOST_BATCH_ITEMS → AreChanges begun →
-    AreCutLawfully (batches_after [] begun [])
+lawful_last : (begun : List Entry) → length begun < most_batch_items → AreChanges begun →
+    AreLawfulBatches (batches_after [] begun [])
 lawful_last [] room changes = tt
-lawful_last (e ∷ begun) room changes = subst AreCutLawfully (sym (joined_first-alone e begun))
-    (lawful_begun (e ∷ begun) room changes, some_entry e begun)
+lawful_last (e ∷ begun) room changes = subst AreLawfulBatches (sym (joined_first-alone e begun))
+    (lawful_begun (e ∷ begun) room changes, some_entry e begun, refl, tt)
 
 -- the batches of what is begun and what is to come are lawful
 abbrev Lawful : List Entry → List Entry → Type 0
 Lawful begun entries =
-    length begun < MOST_BATCH_ITEMS → AreChanges begun → AreCutLawfully (batches_after [] begun entries)
+    length begun < most_batch_items → AreChanges begun → AreLawfulBatches (batches_after [] begun entries)
 
 lawful_step : (begun : List Entry) (entry : Entry) (entries : List Entry) (ends : Bool) →
     ends_behind (length begun) entry.item ≡ ends → DisposesLast (entry ∷ entries) →
     Lawful [] entries → Lawful (begun ++ entry ∷ []) entries → Lawful begun (entry ∷ entries)
 lawful_step begun entry [] true is last anew on room changes =
-    subst AreCutLawfully (closes [] begun entry [] is)
-    (lawful_closed begun (begun ++ entry ∷ []) entry room changes refl, not_empty begun entry)
+    subst AreLawfulBatches (closes [] begun entry [] is)
+    (lawful_closed begun (begun ++ entry ∷ []) entry room changes refl, not_empty begun entry, refl, tt)
 lawful_step begun entry (next ∷ entries) true is last anew on room changes =
-    let other : last_passes is_dispose (begun ++ entry ∷ []) ≡ false =
-    last_passes-snoc is_dispose begun entry ∙ last.0 in
-    subst AreCutLawfully (closes [] begun entry (next ∷ entries) is)
+    let other : is_disposing (begun ++ entry ∷ []) ≡ false =
+    ends_in-snoc is_dispose begun entry ∙ last.0 in
+    subst AreLawfulBatches (closes [] begun entry (next ∷ entries) is)
     (lawful_before (begun ++ entry ∷ []) (batches_behind 0 (next ∷ entries))
     (lawful_closed begun (begun ++ entry ∷ []) entry room changes refl) (not_empty begun entry) other
     (anew (lit< tt) tt))
 lawful_step begun entry entries false is last anew on room changes =
-    let change = neither (is_control entry.item) (length begun + 1 == MOST_BATCH_ITEMS) is in
-    subst AreCutLawfully (goes_on [] begun entry entries is)
+    let change = neither (is_control entry.item) (length begun + 1 == most_batch_items) is in
+    subst AreLawfulBatches (goes_on [] begun entry entries is)
     (on (room_joined begun (begun ++ entry ∷ []) entry room is refl) (AreChanges-snoc begun entry changes change.0))
 
 rest_disposes_last : (entry : Entry) (entries : List Entry) → DisposesLast (entry ∷ entries) → DisposesLast entries
@@ -132,7 +142,7 @@ no_controls (e ∷ []) changes = tt
 no_controls (e ∷ next ∷ begun) changes = (changes.0, no_controls (next ∷ begun) changes.1)
 
 ended_before : (batch : List Entry) (batches : List (List Entry)) → ControlsLast batch →
-    (last_passes is_control batch || length batch == MOST_BATCH_ITEMS) ≡ true →
+    (ends_in is_control batch || length batch == most_batch_items) ≡ true →
     AreEnded batches → AreEnded (batch ∷ batches)
 ended_before batch [] controls ended rest = controls
 ended_before batch (next ∷ batches) controls ended rest = (controls, ended, rest)
@@ -147,15 +157,15 @@ ended_step : (begun : List Entry) (entry : Entry) (entries : List Entry) (ends :
     (AreChanges (begun ++ entry ∷ []) → AreEnded (batches_after [] (begun ++ entry ∷ []) entries)) →
     AreEnded (batches_after [] begun (entry ∷ entries))
 ended_step begun entry entries true is changes anew on =
-    let last : (last_passes is_control (begun ++ entry ∷ []) || length (begun ++ entry ∷ []) == MOST_BATCH_ITEMS) ≡
+    let last : (ends_in is_control (begun ++ entry ∷ []) || length (begun ++ entry ∷ []) == most_batch_items) ≡
     true =
-    ap (λ (b : Bool). b || length (begun ++ entry ∷ []) == MOST_BATCH_ITEMS) (last_passes-snoc is_control begun entry)
-    ∙ ap (λ (n : ℕ). is_control entry.item || n == MOST_BATCH_ITEMS) (length-append begun (entry ∷ []))
+    ap (λ (b : Bool). b || length (begun ++ entry ∷ []) == most_batch_items) (ends_in-snoc is_control begun entry)
+    ∙ ap (λ (n : ℕ). is_control entry.item || n == most_batch_items) (length-append begun (entry ∷ []))
     ∙ is in
     subst AreEnded (closes [] begun entry entries is)
     (ended_before (begun ++ entry ∷ []) (batches_behind 0 entries) (controls_last begun entry changes) last anew)
 ended_step begun entry entries false is changes anew on =
-    let change = neither (is_control entry.item) (length begun + 1 == MOST_BATCH_ITEMS) is in
+    let change = neither (is_control entry.item) (length begun + 1 == most_batch_items) is in
     subst AreEnded (goes_on [] begun entry entries is) (on (AreChanges-snoc begun entry changes change.0))
 
 ended_from : (begun entries : List Entry) → AreChanges begun → AreEnded (batches_after [] begun entries)

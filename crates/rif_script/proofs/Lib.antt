@@ -1,9 +1,11 @@
 pub mod ClientLemmas
 pub mod CuttingLemmas
+pub mod JobClientLemmas
 pub mod JobLemmas
 pub mod LawLemmas
 pub mod NumberingLemmas
 pub mod RankLemmas
+pub mod RowLemmas
 pub mod ScriptLemmas
 pub mod TakingLemmas
 pub mod TextLineLemmas

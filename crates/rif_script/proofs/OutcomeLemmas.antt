@@ -5,7 +5,7 @@ use Rattle.std.specs.Str.{IsValidUpTo}
 use Rattle.std.specs.declared.result.Result.{Result}
 use Rattle.std.proofs.lemmas.List.{take_all}
 use Rattle.std.proofs.lemmas.Str.{utf8_valid_len-IsValidUpTo}
-use Rattle.rif_refusals.specs.declared.limits.TheConstants.{MOST_INPUT_BYTES}
+use Rattle.rif_refusals.specs.Limits.{most_input_bytes}
 use Rattle.rif_refusals.specs.declared.refusal.Refusal.{Refusal}
 use Rattle.rif_refusals.specs.declared.refusal.Refusal.TheVariants.{NotUtf8}
 use Rattle.rif_tree.specs.declared.rule.Doc.{Doc}
@@ -116,7 +116,7 @@ module _ (documents : OneDocument) (bytes : List ℕ) where
   no_refusal job refusal is (inr (inl x)) = text_is_valid bytes x.0 is.text.utf8 x.3
   no_refusal job refusal is (inr (inr x)) = no_text job refusal is x.1
 
-  too_long : (refusal : Refusal) → MOST_INPUT_BYTES < length bytes → length bytes ≤ MOST_INPUT_BYTES → ⊥
+  too_long : (refusal : Refusal) → most_input_bytes < length bytes → length bytes ≤ most_input_bytes → ⊥
   too_long refusal long short = omega (arith, long, short)
 
   refusals : (a b : Refusal) → IsRefused bytes a → IsRefused bytes b → a ≡ b

@@ -1,14 +1,19 @@
 -- One more item: its entry, and the counts of the clients' items.
-use Rattle.std.proofs.Common.{suc, All, ◌≡◌, ◌≢◌, ◌≤◌, ℕ, ◌<◌, ◌+◌, ◌==◌, Bool, true, false, List, [], ◌∷◌, ◌++◌}
-use Rattle.std.proofs.Common.{length, refl, sym, ap, ◌∙◌, subst, arith, take, drop, get_or, set, drop-cons, add-one}
-use Rattle.std.proofs.Common.{get_or-set_other, get_or-set_same, append_assoc, length-set}
+use Rattle.std.proofs.Common.{suc, ◌≡◌, ◌≤◌, ℕ, ◌<◌, ◌+◌, ◌==◌, Bool, true, false, List, [], ◌∷◌, ◌++◌, Some}
+use Rattle.std.proofs.Common.{length, refl, sym, ap, ◌∙◌, arith, take, drop, get_or, drop-cons, add-one, append_assoc}
+use Rattle.std.specs.BTreeMap.{BTreeMap, Updates, is_at}
+use Rattle.std.specs.Cmp.{unsigned_tied}
+use Rattle.std.specs.Ordering.{nat_cmp}
+use Rattle.std.specs.Prelude.{unwrap_or}
+use Rattle.std.specs.declared.option.Option.{Option}
 use Rattle.std.proofs.Math.Seq.{take-suc}
-use Rattle.std.proofs.lemmas.Bool.{eqb-true, eqb-false}
+use Rattle.std.proofs.lemmas.Bool.{eqb-true}
 use Rattle.std.proofs.lemmas.List.{length-take-le}
 use Rattle.std.proofs.lemmas.List.Sums.{count_by-le-length, count_by_more_yes, count_by_more_no}
 use Rattle.session_states.specs.declared.item.Item.{Item}
 use Rattle.session_states.specs.declared.item.Entry.{Entry}
 use Rattle.rif_script.specs.Cutting.{entries_after, sent_count}
+use Rattle.rif_script.specs.Ranks.{sent_so_far}
 
 abbrev pub entry_with : ℕ → ℕ → Item → Entry
 entry_with client rank item = record { client = client; rank = rank; item = item }
@@ -49,47 +54,33 @@ made_more all entries more items i sent rank item lt is ranks copied pushed so_f
     ∙ ap (λ (es : List Entry). entries ++ es) (sym (entries_after-drop items i sent lt is))
     ∙ so_far
 
-count_at : (items : List (ℕ × Item)) (i : ℕ) (sent : ℕ × Item) (counts : List ℕ) (c : ℕ) (is_own : Bool) →
-    (sent.0 == c) ≡ is_own →
-    i < length items → sent ≡ get_or items i sent → c < length counts →
-    get_or counts c 0 ≡ sent_count c (take i items) →
-    get_or (set counts sent.0 (get_or counts sent.0 0 + 1)) c 0 ≡ sent_count c (take (i + 1) items)
-count_at items i sent counts c true own lt is in' counted =
-    let client : sent.0 ≡ c = eqb-true sent.0 c own in
-    let test : (get_or items i sent).0 == c ≡ true = ap (λ (x : ℕ × Item). x.0 == c) (sym is) ∙ own in
-    ap (λ (n : ℕ). get_or (set counts n (get_or counts n 0 + 1)) c 0) client
-    ∙ get_or-set_same counts c (get_or counts c 0 + 1) 0 in'
-    ∙ ap (λ (n : ℕ). n + 1) counted
-    ∙ sym (count_by_more_yes (λ (x : ℕ × Item). x.0 == c) items i sent lt test)
-count_at items i sent counts c false other lt is in' counted =
-    let client : c ≢ sent.0 = λ same. eqb-false sent.0 c other (sym same) in
-    let test : (get_or items i sent).0 == c ≡ false = ap (λ (x : ℕ × Item). x.0 == c) (sym is) ∙ other in
-    get_or-set_other counts sent.0 c (get_or counts sent.0 0 + 1) 0 client
-    ∙ counted
-    ∙ sym (count_by_more_no (λ (x : ℕ × Item). x.0 == c) items i sent lt test)
+-- what a map with one client's number raised has of another client, or of this one
+module _ (items : List (ℕ × Item)) (i : ℕ) (sent : ℕ × Item) (old new : BTreeMap ℕ ℕ) (rank : ℕ)
+    (lt : i < length items)
+    (is : sent ≡ get_or items i sent)
+    (raised : Updates nat_cmp old new sent.0 (Some (rank + 1)))
+    (counted : (c : ℕ) → sent_so_far old c ≡ sent_count c (take i items))
+    (rank_is : rank ≡ sent_so_far old sent.0) where
+  count_at : (c : ℕ) (own : Bool) → (sent.0 == c) ≡ own → sent_so_far new c ≡ sent_count c (take (i + 1) items)
+  count_at c true own =
+      let client : sent.0 ≡ c = eqb-true sent.0 c own in
+      let test : (get_or items i sent).0 == c ≡ true = ap (λ (x : ℕ × Item). x.0 == c) (sym is) ∙ own in
+      ap (sent_so_far new) (sym client)
+      ∙ ap (λ (o : Option ℕ). unwrap_or o 0) raised.1
+      ∙ ap (λ (n : ℕ). n + 1) (rank_is ∙ counted sent.0 ∙ ap (λ (n : ℕ). sent_count n (take i items)) client)
+      ∙ sym (count_by_more_yes (λ (x : ℕ × Item). x.0 == c) items i sent lt test)
+  count_at c false other =
+      let apart : is_at (nat_cmp sent.0) c ≡ false = unsigned_tied sent.0 c ∙ other in
+      let test : (get_or items i sent).0 == c ≡ false = ap (λ (x : ℕ × Item). x.0 == c) (sym is) ∙ other in
+      ap (λ (o : Option ℕ). unwrap_or o 0) (raised.2 c apart)
+      ∙ counted c
+      ∙ sym (count_by_more_no (λ (x : ℕ × Item). x.0 == c) items i sent lt test)
 
--- one more item raises the count of its client
-pub counted_more : (items : List (ℕ × Item)) (i : ℕ) (sent : ℕ × Item) (counts : List ℕ) (n : ℕ) → i < length items →
-    sent ≡ get_or items i sent →
-    n ≡ get_or counts sent.0 0 → ((c : ℕ) → c < length counts → get_or counts c 0 ≡ sent_count c (take i items)) →
-    (c : ℕ) → c < length (set counts sent.0 (n + 1)) →
-    get_or (set counts sent.0 (n + 1)) c 0 ≡ sent_count c (take (i + 1) items)
-counted_more items i sent counts n lt is read counted c in' =
-    let within : c < length counts = subst (λ (k : ℕ). c < k) (length-set counts sent.0 (n + 1)) in' in
-    ap (λ (m : ℕ). get_or (set counts sent.0 (m + 1)) c 0) read
-    ∙ count_at items i sent counts c (sent.0 == c) refl lt is within (counted c within)
+  -- one more item raises the count of its client
+  pub counted_more : (c : ℕ) → sent_so_far new c ≡ sent_count c (take (i + 1) items)
+  counted_more c = count_at c (sent.0 == c) refl
 
 -- a client sent no more than all
 pub few_sent : (items : List (ℕ × Item)) (i c n : ℕ) → i ≤ length items → n ≡ sent_count c (take i items) → n ≤ i
 few_sent items i c n in' counted =
     omega (arith, count_by-le-length (λ (x : ℕ × Item). x.0 == c) (take i items), length-take-le i items in')
-
--- an item of the list is of a known client
-pub client_known : (items all : List (ℕ × Item)) (i : ℕ) (sent : ℕ × Item) (n m : ℕ) →
-    All (λ (x : ℕ × Item). x.0 < n) all → items ≡ all →
-    i < length items → sent ≡ get_or items i sent → m ≡ n → sent.0 < m
-client_known items all i sent n m known same lt is count =
-    let lt_all : i < length all = subst (λ (l : List (ℕ × Item)). i < length l) same lt in
-    let is_all : sent ≡ get_or all i sent = is ∙ ap (λ (l : List (ℕ × Item)). get_or l i sent) same in
-    let below : sent.0 < n = subst (λ (x : ℕ × Item). x.0 < n) (sym is_all) (known i sent lt_all) in
-    omega arith

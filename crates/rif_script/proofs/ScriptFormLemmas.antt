@@ -6,7 +6,7 @@ use Rattle.std.proofs.Common.{inl, inr}
 use Rattle.std.specs.Prelude.{Ok, Err}
 use Rattle.std.specs.declared.result.Result.{Result}
 use Rattle.std.proofs.lemmas.Bool.Decides.{nat_tests}
-use Rattle.rif_refusals.specs.declared.limits.TheConstants.{MOST_CLIENTS, MOST_ITEMS, MOST_BUDGETS}
+use Rattle.rif_refusals.specs.Limits.{most_clients, most_items, most_budgets}
 use Rattle.rif_refusals.specs.declared.refusal.Refusal.{Refusal}
 use Rattle.rif_refusals.specs.declared.refusal.Refusal.TheVariants.{BudgetTooLarge, TooManyItems, TooManyClients}
 use Rattle.prd_grammar.specs.Prefixes.{Prefixes}
@@ -132,15 +132,15 @@ full_is most n = elim (either (nat_le most n)) [
 -- the limits by what was sent
 abbrev pub limits_of : ℕ → List (List ℕ × Item) → Result Script Refusal → Result Script Refusal
 limits_of at all given =
-    cond (nat_lt MOST_BUDGETS (budget_sum all)) (Err (BudgetTooLarge at))
-    (cond (nat_lt MOST_ITEMS (length all)) (Err (TooManyItems at))
-    (cond (nat_lt MOST_CLIENTS (length (names_of all))) (Err (TooManyClients at)) given))
+    cond (nat_lt most_budgets (budget_sum all)) (Err (BudgetTooLarge at))
+    (cond (nat_lt most_items (length all)) (Err (TooManyItems at))
+    (cond (nat_lt most_clients (length (names_of all))) (Err (TooManyClients at)) given))
 
 limits_same : (at : ℕ) (s : Script) (one : List ℕ × Item) (all : List (List ℕ × Item)) →
-    nat_lt MOST_BUDGETS (s.budgets + budget_of one.1) ≡ nat_lt MOST_BUDGETS (budget_sum all) →
-    nat_le MOST_ITEMS (length s.items) ≡ nat_lt MOST_ITEMS (length all) →
-    (not (has_name s.names one.0) && nat_le MOST_CLIENTS (length s.names)) ≡
-    nat_lt MOST_CLIENTS (length (names_of all)) →
+    nat_lt most_budgets (s.budgets + budget_of one.1) ≡ nat_lt most_budgets (budget_sum all) →
+    nat_le most_items (length s.items) ≡ nat_lt most_items (length all) →
+    (not (has_name s.names one.0) && nat_le most_clients (length s.names)) ≡
+    nat_lt most_clients (length (names_of all)) →
     with_sent at s one ≡ limits_of at all (Ok (script_with s one))
 unfolding with_sent
 limits_same at s one all budgets items clients = rw (budgets, items, clients) refl
@@ -149,36 +149,36 @@ pub with_sent_is : (at : ℕ) (sent : List (List ℕ × Item)) (one : List ℕ �
     with_sent at (script_of sent) one ≡ limits_of at (sent ++ one ∷ []) (Ok (script_of (sent ++ one ∷ [])))
 unfolding with_sent
 with_sent_is at sent one within =
-    let few = subst (λ (ns : List (List ℕ)). length ns ≤ MOST_CLIENTS) (sym (final_names sent)) within.few_clients in
-    let budgets : nat_lt MOST_BUDGETS ((script_of sent).budgets + budget_of one.1) ≡
-    nat_lt MOST_BUDGETS (budget_sum (sent ++ one ∷ [])) =
-    ap (nat_lt MOST_BUDGETS) (budget_more sent one) in
-    let items : nat_le MOST_ITEMS (length (script_of sent).items) ≡ nat_lt MOST_ITEMS (length (sent ++ one ∷ [])) =
-    full_is MOST_ITEMS (length (script_of sent).items) ∙ ap (nat_lt MOST_ITEMS) (count_more sent one) in
+    let few = subst (λ (ns : List (List ℕ)). length ns ≤ most_clients) (sym (final_names sent)) within.few_clients in
+    let budgets : nat_lt most_budgets ((script_of sent).budgets + budget_of one.1) ≡
+    nat_lt most_budgets (budget_sum (sent ++ one ∷ [])) =
+    ap (nat_lt most_budgets) (budget_more sent one) in
+    let items : nat_le most_items (length (script_of sent).items) ≡ nat_lt most_items (length (sent ++ one ∷ [])) =
+    full_is most_items (length (script_of sent).items) ∙ ap (nat_lt most_items) (count_more sent one) in
     let clients :
-    (not (has_name (script_of sent).names one.0) && nat_le MOST_CLIENTS (length (script_of sent).names)) ≡
-    nat_lt MOST_CLIENTS (length (names_of (sent ++ one ∷ []))) =
-    name_count (script_of sent).names one.0 MOST_CLIENTS few
-    ∙ ap (λ (ns : List (List ℕ)). nat_lt MOST_CLIENTS (length ns)) (names_more sent one) in
+    (not (has_name (script_of sent).names one.0) && nat_le most_clients (length (script_of sent).names)) ≡
+    nat_lt most_clients (length (names_of (sent ++ one ∷ []))) =
+    name_count (script_of sent).names one.0 most_clients few
+    ∙ ap (λ (ns : List (List ℕ)). nat_lt most_clients (length ns)) (names_more sent one) in
     let tests = limits_same at (script_of sent) one (sent ++ one ∷ []) budgets items clients in
     tests ∙ ap (λ (s : Script). limits_of at (sent ++ one ∷ []) (Ok s)) (sym (one_more sent one))
 
 -- what the limits let through, and what they refuse
 pub limits_ok : (at : ℕ) (all : List (List ℕ × Item)) (s end : Script) → limits_of at all (Ok s) ≡ Ok end →
     IsWithinLimits all × (s ≡ end)
-limits_ok at all s end given = elim (either (nat_lt MOST_BUDGETS (budget_sum all))) [
+limits_ok at all s end given = elim (either (nat_lt most_budgets (budget_sum all))) [
   | inl b ↦ let is : limits_of at all (Ok s) ≡ Err (BudgetTooLarge at) = rw b refl in absurd (cc)
-  | inr b ↦ elim (either (nat_lt MOST_ITEMS (length all))) [
+  | inr b ↦ elim (either (nat_lt most_items (length all))) [
     | inl i ↦ let is : limits_of at all (Ok s) ≡ Err (TooManyItems at) = rw (b, i) refl in absurd (cc)
-    | inr i ↦ elim (either (nat_lt MOST_CLIENTS (length (names_of all)))) [
+    | inr i ↦ elim (either (nat_lt most_clients (length (names_of all)))) [
       | inl c ↦ let is : limits_of at all (Ok s) ≡ Err (TooManyClients at) = rw (b, i, c) refl in absurd (cc)
       | inr c ↦
           let is : limits_of at all (Ok s) ≡ Ok s = rw (b, i, c) refl in
           let same : s ≡ end = cc in (
             record {
-              few_budgets = isnt_above MOST_BUDGETS (budget_sum all) b;
-              few_items = isnt_above MOST_ITEMS (length all) i;
-              few_clients = isnt_above MOST_CLIENTS (length (names_of all)) c;
+              few_budgets = isnt_above most_budgets (budget_sum all) b;
+              few_items = isnt_above most_items (length all) i;
+              few_clients = isnt_above most_clients (length (names_of all)) c;
             },
             same,
           )
@@ -190,9 +190,9 @@ pub limits_keep : (at : ℕ) (all : List (List ℕ × Item)) (s : Script) → Is
     limits_of at all (Ok s) ≡ Ok s
 limits_keep at all s within =
     rw (
-      above_isnt MOST_BUDGETS (budget_sum all) within.few_budgets,
-      above_isnt MOST_ITEMS (length all) within.few_items,
-      above_isnt MOST_CLIENTS (length (names_of all)) within.few_clients,
+      above_isnt most_budgets (budget_sum all) within.few_budgets,
+      above_isnt most_items (length all) within.few_items,
+      above_isnt most_clients (length (names_of all)) within.few_clients,
     ) refl
 
 pub limits_err : (prefixes : Prefixes) (at : ℕ) (sent : List (List ℕ × Item)) (one : List ℕ × Item) (line : List ℕ)
@@ -200,18 +200,18 @@ pub limits_err : (prefixes : Prefixes) (at : ℕ) (sent : List (List ℕ × Item
     limits_of at (sent ++ one ∷ []) (Ok s) ≡ Err refusal → IsFaulty prefixes sent line at refusal
 limits_err prefixes at sent one line s refusal is given =
     let all = sent ++ one ∷ [] in
-    elim (either (nat_lt MOST_BUDGETS (budget_sum all))) [
+    elim (either (nat_lt most_budgets (budget_sum all))) [
       | inl b ↦
           let step : limits_of at all (Ok s) ≡ Err (BudgetTooLarge at) = rw b refl in
           let same : BudgetTooLarge at ≡ refusal = cc in
-          subst (IsFaulty prefixes sent line at) same (refl, one, is, is_above MOST_BUDGETS (budget_sum all) b)
-      | inr b ↦ elim (either (nat_lt MOST_ITEMS (length all))) [
+          subst (IsFaulty prefixes sent line at) same (refl, one, is, is_above most_budgets (budget_sum all) b)
+      | inr b ↦ elim (either (nat_lt most_items (length all))) [
         | inl i ↦
             let step : limits_of at all (Ok s) ≡ Err (TooManyItems at) = rw (b, i) refl in
             let same : TooManyItems at ≡ refusal = cc in
             subst (IsFaulty prefixes sent line at) same
-            (refl, one, is, isnt_above MOST_BUDGETS (budget_sum all) b, is_above MOST_ITEMS (length all) i)
-        | inr i ↦ elim (either (nat_lt MOST_CLIENTS (length (names_of all)))) [
+            (refl, one, is, isnt_above most_budgets (budget_sum all) b, is_above most_items (length all) i)
+        | inr i ↦ elim (either (nat_lt most_clients (length (names_of all)))) [
           | inl c ↦
               let step : limits_of at all (Ok s) ≡ Err (TooManyClients at) = rw (b, i, c) refl in
               let same : TooManyClients at ≡ refusal = cc in
@@ -219,9 +219,9 @@ limits_err prefixes at sent one line s refusal is given =
                 refl,
                 one,
                 is,
-                isnt_above MOST_BUDGETS (budget_sum all) b,
-                isnt_above MOST_ITEMS (length all) i,
-                is_above MOST_CLIENTS (length (names_of all)) c,
+                isnt_above most_budgets (budget_sum all) b,
+                isnt_above most_items (length all) i,
+                is_above most_clients (length (names_of all)) c,
               )
           | inr c ↦ let step : limits_of at all (Ok s) ≡ Ok s = rw (b, i, c) refl in absurd (cc)
         ]

@@ -6,8 +6,8 @@ use Rattle.std.proofs.lemmas.Bool.{eqb-true}
 use Rattle.std.proofs.lemmas.List.Sums.{sum_by-append}
 use Rattle.session_states.specs.declared.item.Item.{Item}
 use Rattle.rif_script.specs.Cutting.{entries_after, sent_count}
-use Rattle.session_states.specs.Clients.{items_of, ranks_of}
-use Rattle.rif_script.specs.CuttingLaws.{CountUp, EntriesFollowScripts, script_of}
+use Rattle.session_states.specs.Clients.{CountUp, items_of, ranks_of, script_of}
+use Rattle.rif_script.specs.CuttingLaws.{EntriesFollowScripts}
 
 items_of-entries_after : (client : ℕ) (before items : List (ℕ × Item)) →
     items_of client (entries_after before items) ≡ script_of client items

@@ -4,14 +4,14 @@ use Rattle.std.proofs.Common.{◌≡◌, ◌∙◌, sym, subst, ap, refl, ℕ, �
 use Rattle.std.proofs.Common.{append-nil, Option, Some, None, length, length-append, arith, All, ◌⊎◌, inl, inr}
 use Rattle.std.specs.Prelude.{Ok, Err}
 use Rattle.std.specs.declared.result.Result.{Result}
-use Rattle.rif_refusals.specs.declared.limits.TheConstants.{MOST_CLIENTS, MOST_ITEMS, MOST_BUDGETS}
+use Rattle.rif_refusals.specs.Limits.{most_clients, most_items, most_budgets}
 use Rattle.rif_refusals.specs.declared.refusal.Refusal.{Refusal}
 use Rattle.rif_refusals.specs.declared.refusal.Refusal.TheVariants.{BadLine, BudgetTooLarge, TooManyItems}
 use Rattle.rif_refusals.specs.declared.refusal.Refusal.TheVariants.{TooManyClients}
 use Rattle.prd_grammar.specs.Prefixes.{Prefixes}
 use Rattle.session_states.specs.declared.item.Item.{Item}
 use Rattle.rif_script.specs.declared.script.Script.{Script}
-use Rattle.rif_script.specs.Cutting.{AreOfClients}
+use Rattle.rif_script.specs.JobClients.{AreOfClients}
 use Rattle.rif_script.specs.Jobs.{AreLines, IsFaulty, IsLine, IsScript, IsScriptRefusal, IsWithinLimits, budget_sum}
 use Rattle.rif_script.specs.Jobs.{names_of, numbered_items, sent_by}
 use Rattle.rif_script.specs.ReadingLines.{and_then, line_at, no_lines, with_given, with_line, with_lines}
@@ -109,21 +109,21 @@ module _ (prefixes : Prefixes) (at : ℕ) (sent : List (List ℕ × Item)) (line
       bad_found (line_at prefixes line) refl never ∙ ap (λ (n : ℕ). Err (BadLine n)) (sym is)
   line_faulty (BudgetTooLarge number) (is, one, here, high) =
       item_found one here
-      ∙ (rw (above_is MOST_BUDGETS (budget_sum (sent ++ one ∷ [])) high) refl
+      ∙ (rw (above_is most_budgets (budget_sum (sent ++ one ∷ [])) high) refl
       ∙ ap (λ (n : ℕ). Err (BudgetTooLarge n)) (sym is))
   line_faulty (TooManyItems number) (is, one, here, low, high) =
       item_found one here
       ∙ (rw (
-        above_isnt MOST_BUDGETS (budget_sum (sent ++ one ∷ [])) low,
-        above_is MOST_ITEMS (length (sent ++ one ∷ [])) high,
+        above_isnt most_budgets (budget_sum (sent ++ one ∷ [])) low,
+        above_is most_items (length (sent ++ one ∷ [])) high,
       ) refl
       ∙ ap (λ (n : ℕ). Err (TooManyItems n)) (sym is))
   line_faulty (TooManyClients number) (is, one, here, low, few, high) =
       item_found one here
       ∙ (rw (
-        above_isnt MOST_BUDGETS (budget_sum (sent ++ one ∷ [])) low,
-        above_isnt MOST_ITEMS (length (sent ++ one ∷ [])) few,
-        above_is MOST_CLIENTS (length (names_of (sent ++ one ∷ []))) high,
+        above_isnt most_budgets (budget_sum (sent ++ one ∷ [])) low,
+        above_isnt most_items (length (sent ++ one ∷ [])) few,
+        above_is most_clients (length (names_of (sent ++ one ∷ []))) high,
       ) refl
       ∙ ap (λ (n : ℕ). Err (TooManyClients n)) (sym is))
   line_faulty _ faulty = absurd faulty

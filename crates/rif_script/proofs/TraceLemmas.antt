@@ -13,13 +13,15 @@ use Rattle.session_states.specs.declared.turn.Act.TheVariants.{Idle, Halted, Dis
 use Rattle.session_states.specs.declared.turn.Act.TheVariants.{StoppedLimit, Resting}
 use Rattle.session_states.specs.declared.turn.Turn.{Turn}
 use Rattle.rif_script.specs.declared.job.Job.{Job}
-use Rattle.session_states.specs.Clients.{items_of, ranks_of}
-use Rattle.rif_script.specs.CuttingLaws.{CountUp, joined, script_of}
-use Rattle.rif_script.specs.Lines.{entry_line, item_text, name_at}
+use Rattle.rif_tree.specs.Rules.{name_of}
+use Rattle.session_states.specs.Batches.{joined}
+use Rattle.session_states.specs.Clients.{CountUp, items_of, ranks_of, script_of}
+use Rattle.rif_script.specs.JobClients.{HasClientNames}
+use Rattle.rif_script.specs.Lines.{entry_line, item_text}
 use Rattle.rif_script.specs.Trace.{act_text, act_word, effect_text, end_line, pick_text, run_text, turn_text}
 use Rattle.rif_script.specs.Trace.{turns_text}
-use Rattle.rif_script.specs.TraceLaws.{AreKnown, AreTurns, FollowsScripts, HasClientNames, HasNoSpace}
-use Rattle.rif_script.specs.TraceLaws.{SameTextSameRun, turns_behind}
+use Rattle.rif_script.specs.TraceLaws.{AreKnown, AreTurns, FollowsScripts, SameTextSameRun, turns_behind}
+use Rattle.rif_script.proofs.ClientNameLemmas.{HasNoSpace, client_spaceless}
 
 -- how many of the entries are a client's
 abbrev count_of : ℕ → List Entry → ℕ
@@ -46,7 +48,7 @@ same_parts c k r q i j e f g = cc
 
 -- the rest of a line behind its word, and what stands behind it
 abbrev line_rest : Job → Entry → List ℕ → List ℕ
-line_rest job e rest = name_at job.names e.client ++ 32 ∷ (item_text e.item ++ 10 ∷ rest)
+line_rest job e rest = name_of job.names e.client ++ 32 ∷ (item_text e.item ++ 10 ∷ rest)
 
 entry_line-rest : (word : List ℕ) (job : Job) (e : Entry) (rest : List ℕ) →
     entry_line word job.names e ++ rest ≡ word ++ 32 ∷ line_rest job e rest
@@ -56,8 +58,9 @@ same_entry : (job : Job) (before : List Entry) (d e : Entry) (ds es : List Entry
     HasClientNames job → Continue job before (d ∷ ds) → Continue job before (e ∷ es) →
     line_rest job d r ≡ line_rest job e q → d ≡ e
 same_entry job before d e ds es r q j h k same =
-    let name = same_name (name_at job.names d.client) (name_at job.names e.client) _ _ (j.plain d.client h.0)
-    (j.plain e.client k.0) same in
+    let name = same_name (name_of job.names d.client) (name_of job.names e.client) _ _
+    (client_spaceless (name_of job.names d.client) (j.formed d.client h.0))
+    (client_spaceless (name_of job.names e.client) (j.formed e.client k.0)) same in
     let client : d.client ≡ e.client = j.distinct d.client e.client h.0 k.0 name in
     let counts : count_of d.client before ≡ count_of e.client before = ap (λ (c : ℕ). count_of c before) client in
     let rank : d.rank ≡ e.rank = cc in

@@ -3,20 +3,14 @@
 --     batches_of_entries es       the batches of a script's entries
 --     left_of_entries es          the entries behind the first Dispose
 -- Source: the project's own (docs/PROFILE.md, "Replay").
-use Rattle.std.specs.Prelude.{suc, ◌<◌, ◌+◌, ◌==◌, ◌||◌, ℕ, Bool, true, false, List, [], ◌∷◌, ◌++◌, All, count_by}
-use Rattle.std.specs.Prelude.{drop, if◌then◌else◌, length, take}
-use Rattle.rif_refusals.specs.declared.limits.TheConstants.{MOST_BATCH_ITEMS}
+use Rattle.std.specs.Prelude.{suc, ◌+◌, ◌==◌, ◌||◌, ℕ, Bool, true, false, List, [], ◌∷◌, ◌++◌, count_by, drop}
+use Rattle.std.specs.Prelude.{if◌then◌else◌, take}
+use Rattle.rif_refusals.specs.Limits.{most_batch_items}
 use Rattle.session_states.specs.declared.item.Item.{Item}
 use Rattle.session_states.specs.declared.item.Item.TheVariants.{Change, Fire, Until, Halt, Dispose}
 use Rattle.session_states.specs.declared.item.Entry.{Entry}
+use Rattle.session_states.specs.Batches.{is_dispose}
 use Rattle.rif_script.specs.declared.job.Job.{Job}
-
--- each item is of one of the clients with these names
-abbrev pub AreOfClients : List (List ℕ) → List (ℕ × Item) → Type 0
-AreOfClients names items = All (λ sent. sent.0 < length names) items
-
-abbrev pub HasItsClients : Job → Type 0
-HasItsClients job = AreOfClients job.names job.items
 
 -- how many of the items a client sent
 abbrev pub sent_count : ℕ → List (ℕ × Item) → ℕ
@@ -40,13 +34,6 @@ is_control (Until budget) = true
 is_control Halt = true
 is_control Dispose = true
 
-abbrev pub is_dispose : Item → Bool
-is_dispose (Change c) = false
-is_dispose (Fire budget) = false
-is_dispose (Until budget) = false
-is_dispose Halt = false
-is_dispose Dispose = true
-
 -- how many entries there are up to the first Dispose, and with it
 abbrev pub served_count : List Entry → ℕ
 served_count [] = 0
@@ -54,7 +41,7 @@ served_count (entry ∷ entries) = if is_dispose entry.item then 1 else suc (ser
 
 -- whether an item ends a batch in which so many stand before it
 abbrev pub ends_behind : ℕ → Item → Bool
-ends_behind before item = is_control item || before + 1 == MOST_BATCH_ITEMS
+ends_behind before item = is_control item || before + 1 == most_batch_items
 
 -- an entry before those of the first batch
 abbrev pub with_first : Entry → List (List Entry) → List (List Entry)

@@ -16,8 +16,8 @@ use Rattle.std.specs.Prelude.{if◌then◌else◌, List, [], ◌∷◌, ◌++◌
 use Rattle.std.specs.Prelude.{bytes_eq, length, map}
 use Rattle.std.specs.List.{list_all}
 use Rattle.std.specs.Str.{IsValidUpTo}
-use Rattle.rif_refusals.specs.declared.limits.TheConstants.{MOST_INPUT_BYTES, MOST_CLIENTS, MOST_ITEMS, MOST_BUDGETS}
-use Rattle.rif_refusals.specs.declared.limits.TheConstants.{MOST_NAME_CHARACTERS}
+use Rattle.rif_refusals.specs.Limits.{most_input_bytes, most_clients, most_items, most_budgets}
+use Rattle.rif_refusals.specs.Limits.{most_name_characters}
 use Rattle.rif_values.specs.declared.change.Change.TheVariants.{Assert, Retract, RetractSlot, RetractObject, Modify}
 use Rattle.rif_values.specs.declared.fact.Fact.TheVariants.{Frame}
 use Rattle.rif_refusals.specs.declared.refusal.Refusal.{Refusal}
@@ -87,7 +87,7 @@ is_client_character b = is_between 97 122 b || (is_between 48 57 b || b == 95)
 
 -- whether a word may be a client's name
 abbrev pub is_client_name : List ℕ → Bool
-is_client_name text = nat_le (length text) MOST_NAME_CHARACTERS && list_all is_client_character text
+is_client_name text = nat_le (length text) most_name_characters && list_all is_client_character text
 
 -- a WORD of this text
 abbrev pub word : List ℕ → Written
@@ -180,9 +180,9 @@ numbered_items names sent = map (λ (one : List ℕ × Item). (place_of names on
 
 -- what is sent is within the limits
 pub record IsWithinLimits (sent : List (List ℕ × Item)) : Type 0 where
-  pub few_budgets : budget_sum sent ≤ MOST_BUDGETS
-  pub few_items : length sent ≤ MOST_ITEMS
-  pub few_clients : length (names_of sent) ≤ MOST_CLIENTS
+  pub few_budgets : budget_sum sent ≤ most_budgets
+  pub few_items : length sent ≤ most_items
+  pub few_clients : length (names_of sent) ≤ most_clients
 
 -- the lines are a script of these clients, in the order of their numbers, with these items, within the limits
 pub record IsScript (prefixes : Prefixes) (lines : List (List ℕ)) (names : List (List ℕ))
@@ -201,14 +201,14 @@ IsFaulty prefixes before line number (BadLine at) =
     (at ≡ number) × ((given : Option (List ℕ × Item)) → IsLine prefixes line given → ⊥)
 IsFaulty prefixes before line number (BudgetTooLarge at) =
     (at ≡ number) × (one : List ℕ × Item) × IsLine prefixes line (Some one)
-    × (MOST_BUDGETS < budget_sum (before ++ one ∷ []))
+    × (most_budgets < budget_sum (before ++ one ∷ []))
 IsFaulty prefixes before line number (TooManyItems at) =
     (at ≡ number) × (one : List ℕ × Item) × IsLine prefixes line (Some one)
-    × (budget_sum (before ++ one ∷ []) ≤ MOST_BUDGETS) × (MOST_ITEMS < length (before ++ one ∷ []))
+    × (budget_sum (before ++ one ∷ []) ≤ most_budgets) × (most_items < length (before ++ one ∷ []))
 IsFaulty prefixes before line number (TooManyClients at) =
     (at ≡ number) × (one : List ℕ × Item) × IsLine prefixes line (Some one)
-    × (budget_sum (before ++ one ∷ []) ≤ MOST_BUDGETS) × (length (before ++ one ∷ []) ≤ MOST_ITEMS)
-    × (MOST_CLIENTS < length (names_of (before ++ one ∷ [])))
+    × (budget_sum (before ++ one ∷ []) ≤ most_budgets) × (length (before ++ one ∷ []) ≤ most_items)
+    × (most_clients < length (names_of (before ++ one ∷ [])))
 IsFaulty prefixes before line number _ = ⊥
 
 -- Lines, of which the first has this number, are no script: a line is faulty, and those before it are a script.
@@ -225,7 +225,7 @@ pub record IsScriptRefusal (prefixes : Prefixes) (lines : List (List ℕ)) (firs
 
 -- an input that isn't too long and is UTF-8
 pub record IsText (bytes : List ℕ) : Type 0 where
-  pub short : length bytes ≤ MOST_INPUT_BYTES
+  pub short : length bytes ≤ most_input_bytes
   pub utf8 : IsUtf8 bytes
 
 -- the input's document, with its prefixes
@@ -257,8 +257,8 @@ pub record HasScriptRefusal (bytes : List ℕ) (refusal : Refusal) : Type 0 wher
 -- tokens are refused; the script is.
 abbrev pub IsRefused : List ℕ → Refusal → Type 0
 IsRefused bytes refusal =
-    ((refusal ≡ InputTooLong) × (MOST_INPUT_BYTES < length bytes))
-    ⊎ (((at : ℕ) × (refusal ≡ NotUtf8 at) × (length bytes ≤ MOST_INPUT_BYTES) × IsValidUpTo bytes at)
+    ((refusal ≡ InputTooLong) × (most_input_bytes < length bytes))
+    ⊎ (((at : ℕ) × (refusal ≡ NotUtf8 at) × (length bytes ≤ most_input_bytes) × IsValidUpTo bytes at)
     ⊎ (IsText bytes × ((lexed (document_text bytes) ≡ Err refusal)
     ⊎ (HasDocumentRefusal bytes refusal ⊎ HasScriptRefusal bytes refusal))))
 

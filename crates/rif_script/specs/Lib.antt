@@ -4,8 +4,10 @@ pub mod CuttingLaws
 pub mod Faults
 pub mod InMemory
 pub mod JobParts
+pub mod JobClients
 pub mod Jobs
 pub mod Lines
+pub mod Ranks
 pub mod ReadingItems
 pub mod ReadingLines
 pub mod RefusalLine

@@ -4,11 +4,12 @@
 --     entry_text names e         an entry's client and item
 --     entry_line word names e    the line of an entry behind a word
 -- Source: the project's own (docs/FORMATS.md, "Jobs" and "The trace").
-use Rattle.std.specs.Prelude.{ℕ, List, [], ◌++◌, codes, decimal, slice_get, unwrap_or}
+use Rattle.std.specs.Prelude.{ℕ, List, ◌++◌, codes, decimal}
 use Rattle.rif_values.specs.declared.change.Change.{Change}
 use Rattle.rif_values.specs.declared.change.Change.TheVariants.{Assert, Retract, RetractSlot, RetractObject, Modify}
 use Rattle.rif_values.specs.declared.fact.Fact.TheVariants.{Frame}
 use Rattle.rif_values.specs.Writing.{const_text, fact_text}
+use Rattle.rif_tree.specs.Rules.{name_of}
 use Rattle.session_states.specs.declared.item.Item.{Item}
 use Rattle.session_states.specs.declared.item.Item.TheVariants.{Change as Changing, Fire, Until, Halt, Dispose}
 use Rattle.session_states.specs.declared.item.Entry.{Entry}
@@ -27,12 +28,8 @@ item_text (Until budget) = codes "until " ++ decimal budget
 item_text Halt = codes "halt"
 item_text Dispose = codes "dispose"
 
--- the name at a number
-abbrev pub name_at : List (List ℕ) → ℕ → List ℕ
-name_at names n = unwrap_or (slice_get names n) []
-
 abbrev pub entry_text : List (List ℕ) → Entry → List ℕ
-entry_text names entry = name_at names entry.client ++ codes " " ++ item_text entry.item
+entry_text names entry = name_of names entry.client ++ codes " " ++ item_text entry.item
 
 abbrev pub entry_line : List ℕ → List (List ℕ) → Entry → List ℕ
 entry_line word names entry = word ++ codes " " ++ entry_text names entry ++ codes "\n"

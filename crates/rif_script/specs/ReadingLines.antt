@@ -5,7 +5,7 @@
 use Rattle.std.specs.Prelude.{ℕ, ◌+◌, ◌==◌, ◌&&◌, not, nat_le, nat_lt, if◌then◌else◌, List, [], ◌∷◌, ◌++◌, Option}
 use Rattle.std.specs.Prelude.{Some, None, Ok, Err, length, map, suc}
 use Rattle.std.specs.declared.result.Result.{Result}
-use Rattle.rif_refusals.specs.declared.limits.TheConstants.{MOST_CLIENTS, MOST_ITEMS, MOST_BUDGETS}
+use Rattle.rif_refusals.specs.Limits.{most_clients, most_items, most_budgets}
 use Rattle.rif_refusals.specs.declared.refusal.Refusal.{Refusal}
 use Rattle.rif_refusals.specs.declared.refusal.Refusal.TheVariants.{BadLine, BudgetTooLarge, TooManyItems}
 use Rattle.rif_refusals.specs.declared.refusal.Refusal.TheVariants.{TooManyClients}
@@ -44,9 +44,9 @@ script_with s one = record {
 -- the script with one item more, or the least limit that is passed with it
 unfoldable pub with_sent : ℕ → Script → List ℕ × Item → Result Script Refusal
 with_sent at s one =
-    if nat_lt MOST_BUDGETS (s.budgets + budget_of one.1) then Err (BudgetTooLarge at)
-    else (if nat_le MOST_ITEMS (length s.items) then Err (TooManyItems at)
-    else (if not (has_name s.names one.0) && nat_le MOST_CLIENTS (length s.names) then Err (TooManyClients at)
+    if nat_lt most_budgets (s.budgets + budget_of one.1) then Err (BudgetTooLarge at)
+    else (if nat_le most_items (length s.items) then Err (TooManyItems at)
+    else (if not (has_name s.names one.0) && nat_le most_clients (length s.names) then Err (TooManyClients at)
     else Ok (script_with s one)))
 
 abbrev pub with_given : ℕ → Script → Option (Option (List ℕ × Item)) → Result Script Refusal

@@ -5,7 +5,7 @@
 --     with_room at s one budgets   the script with an item that there is room for, or the same
 use Rattle.std.specs.Prelude.{ℕ, ◌+◌, ◌&&◌, not, nat_le, nat_lt, if◌then◌else◌, List, [], ◌∷◌, ◌++◌, Ok, Err, length}
 use Rattle.std.specs.declared.result.Result.{Result}
-use Rattle.rif_refusals.specs.declared.limits.TheConstants.{MOST_CLIENTS, MOST_BUDGETS, MOST_ITEMS}
+use Rattle.rif_refusals.specs.Limits.{most_clients, most_budgets, most_items}
 use Rattle.rif_refusals.specs.declared.refusal.Refusal.{Refusal}
 use Rattle.rif_refusals.specs.declared.refusal.Refusal.TheVariants.{BudgetTooLarge, TooManyClients, TooManyItems}
 use Rattle.prd_grammar.specs.Values.{has_name, place_of, with_name}
@@ -15,17 +15,17 @@ use Rattle.rif_script.specs.Jobs.{budget_of}
 use Rattle.rif_script.specs.ReadingLines.{and_then}
 
 abbrev pub budgets_with : ℕ → ℕ → Result ℕ Refusal
-budgets_with at sum = if nat_lt MOST_BUDGETS sum then Err (BudgetTooLarge at) else Ok sum
+budgets_with at sum = if nat_lt most_budgets sum then Err (BudgetTooLarge at) else Ok sum
 
 abbrev pub client_with : ℕ → List (List ℕ) → List ℕ → Result (ℕ × List (List ℕ)) Refusal
 client_with at names name =
-    if not (has_name names name) && nat_le MOST_CLIENTS (length names) then Err (TooManyClients at)
+    if not (has_name names name) && nat_le most_clients (length names) then Err (TooManyClients at)
     else Ok (place_of names name, with_name names name)
 
 abbrev pub room_for : ℕ → Script → Item → Result ℕ Refusal
 room_for at s item =
-    if nat_lt MOST_BUDGETS (s.budgets + budget_of item) then Err (BudgetTooLarge at)
-    else (if nat_le MOST_ITEMS (length s.items) then Err (TooManyItems at) else Ok (s.budgets + budget_of item))
+    if nat_lt most_budgets (s.budgets + budget_of item) then Err (BudgetTooLarge at)
+    else (if nat_le most_items (length s.items) then Err (TooManyItems at) else Ok (s.budgets + budget_of item))
 
 abbrev pub with_client : Script → Item → ℕ → ℕ × List (List ℕ) → Result Script Refusal
 with_client s item budgets found =

@@ -3,8 +3,8 @@
 --     turns_text job k turns           turns with the numbers from one on
 --     run_text job turns left facts    the text of a run
 -- Source: the project's own (docs/FORMATS.md, "The trace").
-use Rattle.std.specs.Prelude.{suc, ℕ, ◌-◌, Bool, true, false, List, [], ◌∷◌, ◌++◌, Some, None, codes, count_by}
-use Rattle.std.specs.Prelude.{decimal, length, slice_get}
+use Rattle.std.specs.Prelude.{suc, ℕ, Bool, true, false, List, [], ◌∷◌, ◌++◌, Some, None, codes, count_by, decimal}
+use Rattle.std.specs.Prelude.{length}
 use Rattle.std.specs.List.{flat_map}
 use Rattle.std.specs.declared.option.Option.{Option}
 use Rattle.rif_values.specs.declared.constant.Const.{Const}
@@ -12,7 +12,8 @@ use Rattle.rif_values.specs.declared.fact.Fact.{Fact}
 use Rattle.rif_values.specs.declared.instance.Instance.{Instance}
 use Rattle.rif_tree.specs.declared.rule.Doc.{Doc}
 use Rattle.rif_tree.specs.declared.rule.Rule.{Rule}
-use Rattle.rif_values.specs.Bindings.{value_at}
+use Rattle.rif_tree.specs.Rules.{name_of, rule_of, shown_variables}
+use Rattle.rif_values.specs.Bindings.{Row, value_at}
 use Rattle.rif_values.specs.Writing.{const_text, fact_text}
 use Rattle.session_states.specs.declared.item.Entry.{Entry}
 use Rattle.session_states.specs.declared.turn.Act.{Act}
@@ -22,15 +23,7 @@ use Rattle.session_states.specs.declared.turn.Effect.{Effect}
 use Rattle.session_states.specs.declared.turn.Effect.TheVariants.{None as Unchanged, Void, Net}
 use Rattle.session_states.specs.declared.turn.Turn.{Turn}
 use Rattle.rif_script.specs.declared.job.Job.{Job}
-use Rattle.rif_script.specs.Lines.{name_at, entry_line}
-
--- the `Forall` variables of a rule, in order of declaration
-abbrev pub forall_vars : Rule → List ℕ
-forall_vars rule = flat_map (λ level. level.vars) rule.levels
-
--- the rule of a number, counted from 1
-abbrev pub rule_at : Doc → ℕ → Option Rule
-rule_at doc n = slice_get doc.rules (n - 1)
+use Rattle.rif_script.specs.Lines.{entry_line}
 
 -- what a variable is bound to, where it is
 abbrev pub bound_text : Option Const → List ℕ
@@ -38,13 +31,17 @@ bound_text None = []
 bound_text (Some c) = const_text c
 
 -- a variable's name and value
-abbrev pub var_text : Rule → List (ℕ × Const) → ℕ → List ℕ
-var_text rule row var = codes " ?" ++ name_at rule.names var ++ codes "=" ++ bound_text (value_at row var)
+abbrev pub variable_text : Row → ℕ × List ℕ → List ℕ
+variable_text row shown = codes " ?" ++ shown.1 ++ codes "=" ++ bound_text (value_at row shown.0)
+
+-- the same of the variable of a number
+abbrev pub text_of_variable : Rule → Row → ℕ → List ℕ
+text_of_variable rule row v = variable_text row (v, name_of rule.names v)
 
 -- the values of a rule's `Forall` variables
-abbrev pub row_text : Option Rule → List (ℕ × Const) → List ℕ
+abbrev pub row_text : Option Rule → Row → List ℕ
 row_text None row = []
-row_text (Some rule) row = flat_map (var_text rule row) (forall_vars rule)
+row_text (Some rule) row = flat_map (variable_text row) (shown_variables rule)
 
 abbrev pub act_word : Option Act → List ℕ
 act_word None = []
@@ -58,7 +55,7 @@ act_word (Some Resting) = codes "rest"
 
 abbrev pub pick_text : Doc → Option Instance → List ℕ
 pick_text doc None = []
-pick_text doc (Some pick) = codes " " ++ decimal pick.rule ++ row_text (rule_at doc pick.rule) pick.row
+pick_text doc (Some pick) = codes " " ++ decimal pick.rule ++ row_text (rule_of doc pick.rule) pick.row
 
 abbrev pub fact_line : List ℕ → Fact → List ℕ
 fact_line sign fact = sign ++ fact_text fact ++ codes "\n"

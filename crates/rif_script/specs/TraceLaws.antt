@@ -4,25 +4,15 @@
 --     SameTextSameRun                    two runs of a job with the same text have the same batches and the same
 --                                        entries left
 -- Source: the project's own (docs/FORMATS.md, "The trace").
-use Rattle.std.specs.Prelude.{◌≡◌, ◌≢◌, ◌<◌, ℕ, List, [], ◌∷◌, ◌++◌, IsSome, length}
+use Rattle.std.specs.Prelude.{◌≡◌, ◌<◌, ℕ, List, [], ◌∷◌, ◌++◌, IsSome, length}
 use Rattle.session_states.specs.declared.item.Item.{Item}
 use Rattle.session_states.specs.declared.item.Entry.{Entry}
 use Rattle.session_states.specs.declared.turn.Turn.{Turn}
 use Rattle.rif_script.specs.declared.job.Job.{Job}
-use Rattle.session_states.specs.Clients.{items_of, ranks_of}
-use Rattle.rif_script.specs.CuttingLaws.{CountUp, joined, script_of}
-use Rattle.rif_script.specs.Lines.{name_at}
+use Rattle.session_states.specs.Batches.{joined}
+use Rattle.session_states.specs.Clients.{CountUp, items_of, ranks_of, script_of}
+use Rattle.rif_script.specs.JobClients.{HasClientNames}
 use Rattle.rif_script.specs.Trace.{run_text}
-
-abbrev pub HasNoSpace : List ℕ → Type 0
-HasNoSpace [] = Unit {0}
-HasNoSpace (b ∷ bs) = (b ≢ 32) × HasNoSpace bs
-
--- the clients' names have no space, and differ
-pub record HasClientNames (job : Job) : Type 0 where
-  pub plain : (i : ℕ) → i < length job.names → HasNoSpace (name_at job.names i)
-  pub distinct : (i j : ℕ) → i < length job.names → j < length job.names → name_at job.names i ≡ name_at job.names j →
-      i ≡ j
 
 -- the entries are of the job's clients
 abbrev pub AreKnown : Job → List Entry → Type 0

@@ -1,24 +1,25 @@
 //! The batches of a job for one thread.
-ghost use Rattle.std.specs.Prelude.{◌≡◌, ◌≤◌, ◌<◌, All, IfOk, [], drop, length, take};
-ghost use Rattle.rif_refusals.specs.declared.limits.TheConstants.{MOST_BATCH_ITEMS};
-ghost use Rattle.rif_script.specs.Cutting.{HasItsClients, script_entries, is_control, ends_behind, served_count};
+ghost use Rattle.std.specs.Prelude.{◌≡◌, ◌≤◌, ◌<◌, IfOk, [], drop, length, take};
+ghost use Rattle.rif_refusals.specs.Limits.{most_batch_items};
+ghost use Rattle.rif_script.specs.Cutting.{script_entries, is_control, ends_behind, served_count};
 ghost use Rattle.rif_script.specs.Cutting.{batches_behind, batches_of_entries, left_of_entries};
+ghost use Rattle.rif_script.specs.Ranks.{sent_so_far};
 
 use crate::job::Job;
 use rif_refusals::limits::MOST_BATCH_ITEMS;
 use rif_values::{Listed, OutOfMemory};
 use session_states::{Batch, Entry, Item};
 use std::alloc::Global;
+use std::collections::BTreeMap;
 use std::mem;
 
 /// The batches of a job's items for one thread, and the entries that are left. A batch ends after a control
 /// item, after 1,024 items or at the end of the script; what stands behind the first Dispose is left.
-/// The condition is that each item's client is the number of one of the job's names, as in each job that was read.
-/// The cost is a copy of each item.
+/// The cost is a copy of each item, and for each a look-up of its client among those that have sent some, which
+/// grows with the logarithm of their number.
 ///
 /// Source: our own (docs/PROFILE.md, "Replay").
 pub fn batches_of(alloc: Global, job: &Job) -> Result<(Vec<Batch>, Vec<Entry>), OutOfMemory>
-    requires { HasItsClients job.now }
     ensures batches { IfOk result (λ cut. cut.0.items ≡ batches_of_entries (script_entries job.now)) }
     ensures left { IfOk result (λ cut. cut.1.items ≡ left_of_entries (script_entries job.now)) }
 {
@@ -29,21 +30,30 @@ pub fn batches_of(alloc: Global, job: &Job) -> Result<(Vec<Batch>, Vec<Entry>), 
 
 // The entries of a job's items. The number of items that each client has sent so far is its next rank.
 fn entries_of(alloc: Global, job: &Job) -> Result<Vec<Entry>, OutOfMemory>
-    requires { HasItsClients job.now }
     ensures { IfOk result (λ entries. entries.items ≡ script_entries job.now) }
 {
     let mut entries = Vec::new(alloc);
-    let mut sent = vec![in alloc; 0u64; job.names.len()]?;
+    let mut sent = BTreeMap::new(alloc);
     for (client, item) in job.items.as_slice() {
-        let place = *client as usize;
+        let rank = sent_so_far(&sent, *client);
         entries.push(Entry {
             client: *client,
-            rank: sent[place],
+            rank,
             item: item.copy()?,
         })?;
-        sent[place] += 1;
+        sent.insert(*client, rank + 1)?;
     }
     Ok(entries)
+}
+
+// How many items a client has sent, where the map has these numbers of all that have sent some.
+fn sent_so_far(sent: &BTreeMap<u32, u64>, client: u32) -> u64
+    ensures { result ≡ sent_so_far sent.now client }
+{
+    match sent.get(&client) {
+        Some(count) => *count,
+        None => 0,
+    }
 }
 
 // How many entries there are up to the first Dispose, and with it.
@@ -82,7 +92,7 @@ fn batches(alloc: Global, entries: Vec<Entry>) -> Result<Vec<Batch>, OutOfMemory
 
 // Whether an item ends a batch in which so many stand before it.
 fn is_last(before: usize, item: &Item) -> bool
-    requires { before < MOST_BATCH_ITEMS }
+    requires { before < most_batch_items }
     ensures { result ≡ ends_behind before item.now }
 {
     is_control_item(item) || before + 1 == MOST_BATCH_ITEMS

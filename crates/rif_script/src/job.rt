@@ -1,5 +1,5 @@
 ghost use Rattle.std.specs.Prelude.{IfErr, IfOk};
-ghost use Rattle.rif_script.specs.Cutting.{HasItsClients};
+ghost use Rattle.rif_script.specs.JobClients.{HasItsClients};
 ghost use Rattle.rif_script.specs.JobParts.{IsDocumentText, RefusesText};
 ghost use Rattle.rif_script.specs.Jobs.{IsJob, IsText, RefusesJob};
 

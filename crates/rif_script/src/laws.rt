@@ -1,6 +1,7 @@
 //! Laws of the definitions: functions without parameters, whose bodies are empty.
 ghost use Rattle.rif_script.specs.CheckedText.{CheckedTextIsAJob};
 ghost use Rattle.rif_script.specs.CuttingLaws.{CutEndsBatches, CutIsLawful, CutKeepsAll, EntriesFollowScripts};
+ghost use Rattle.rif_script.specs.JobClients.{JobsHaveClients};
 ghost use Rattle.rif_script.specs.Jobs.{OneOutcome};
 ghost use Rattle.rif_script.specs.TraceLaws.{SameTextSameRun};
 
@@ -9,7 +10,7 @@ pub fn cut_keeps_all()
     ensures { CutKeepsAll }
 {}
 
-/// Law: each batch of a script is lawful and not empty, and none follows one that ends in a Dispose.
+/// Law: each batch of a script is lawful, none is empty, and none follows one that ends in a Dispose.
 pub fn cut_is_lawful()
     ensures { CutIsLawful }
 {}
@@ -29,6 +30,12 @@ pub fn entries_follow_scripts()
 /// their scripts.
 pub fn same_text_same_run()
     ensures { SameTextSameRun }
+{}
+
+/// Law: each job that an input is has clients' names that have the form of one and differ, and each of its
+/// items is of one of these clients.
+pub fn jobs_have_clients()
+    ensures { JobsHaveClients }
 {}
 
 /// Law: an input is one job at most, has one refusal at most, and not both.

@@ -15,6 +15,7 @@
 //! | `refusal_line.rt` | `write_refusal`, the line of a refused input | `specs/RefusalLine.antt` |
 //! | `laws.rt` | that an input has one outcome | `specs/Jobs.antt` |
 //! | | that the text of a document that was read is a job of its own | `specs/CheckedText.antt` |
+//! | | that a job has its clients | `specs/JobClients.antt` |
 //! | | what the cut keeps, and what a text determines | `specs/CuttingLaws.antt`, `specs/TraceLaws.antt` |
 //! | `source.rt`, `sink.rt` | `Source` and `Sink`, what gives bytes and what takes them | `specs/Faults.antt` |
 //! | `failed.rt` | `Failed`, a call that moved no byte | |

@@ -1,7 +1,8 @@
 //! The lines of items, as clients write them and as a run shows them.
 ghost use Rattle.std.specs.Prelude.{◌≡◌, ◌++◌, OnOk, decimal};
 ghost use Rattle.std.specs.List.{flat_map};
-ghost use Rattle.rif_script.specs.Lines.{name_at, change_text, item_text, entry_text, entry_line};
+ghost use Rattle.rif_tree.specs.Rules.{name_of};
+ghost use Rattle.rif_script.specs.Lines.{change_text, item_text, entry_text, entry_line};
 
 use itoa::Buffer;
 use rif_values::{Change, Const, OutOfMemory, Text, push_const, push_fact};
@@ -38,7 +39,7 @@ fn push_entry(out: &mut Vec<u8>, names: &[Text], entry: &Entry) -> Result<(), Ou
 
 /// Appends the name at a place, which is found in constant time, and nothing where there is none.
 pub fn push_name(out: &mut Vec<u8>, names: &[Text], place: u32) -> Result<(), OutOfMemory>
-    ensures { OnOk result (out.new.items ≡ out.old.items ++ name_at names.now place) }
+    ensures { OnOk result (out.new.items ≡ out.old.items ++ name_of names.now place) }
 {
     match names.get(place as usize) {
         Some(name) => Ok(out.extend_from_slice(name.bytes())?),

@@ -1,6 +1,6 @@
 //! A script: the clients and the items that its lines give.
 ghost use Rattle.std.specs.Prelude.{◌≡◌, ◌<◌, ◌≤◌, ◌^◌, ◌+◌, ◌++◌, ◌∷◌, [], IfOk, IsUtf8, length};
-ghost use Rattle.rif_refusals.specs.declared.limits.TheConstants.{MOST_CLIENTS};
+ghost use Rattle.rif_refusals.specs.Limits.{most_clients};
 ghost use Rattle.rif_lex.specs.Lexing.{Answers};
 ghost use Rattle.prd_grammar.specs.Values.{place_of};
 ghost use Rattle.rif_script.specs.Jobs.{budget_of, lines_of};
@@ -60,7 +60,7 @@ pub fn read_script(
 
 impl Script {
     ghost use Rattle.std.specs.Prelude.{◌≤◌, IfOk, IsUtf8, length};
-    ghost use Rattle.rif_refusals.specs.declared.limits.TheConstants.{MOST_CLIENTS};
+    ghost use Rattle.rif_refusals.specs.Limits.{most_clients};
     ghost use Rattle.rif_lex.specs.Lexing.{Answers};
     ghost use Rattle.rif_script.specs.ReadingLines.{with_line, with_sent};
     ghost use Rattle.rif_script.specs.ScriptSteps.{room_for, with_room};
@@ -75,9 +75,9 @@ impl Script {
         line: &[u8],
         number: u64,
     ) -> Result<Script, Fault>
-        requires { length self.names ≤ MOST_CLIENTS }
+        requires { length self.names ≤ most_clients }
         ensures is { Answers result (with_line prefixes.now number self line.now) }
-        ensures few { IfOk result (λ script. length script.names ≤ MOST_CLIENTS) }
+        ensures few { IfOk result (λ script. length script.names ≤ most_clients) }
     {
         match read_line(pool, found, prefixes, line)? {
             None => Err(Fault::Refused(Refusal::BadLine { line: number })),
@@ -89,9 +89,9 @@ impl Script {
     // The script with a client's item, which the line of this number sends.
     fn with_sent(self, alloc: Global, name: &[u8], item: Item, number: u64) -> Result<Script, Fault>
         requires utf8 { IsUtf8 name.now }
-        requires few { length self.names ≤ MOST_CLIENTS }
+        requires few { length self.names ≤ most_clients }
         ensures is { Answers result (with_sent number self (name.now, item)) }
-        ensures few { IfOk result (λ script. length script.names ≤ MOST_CLIENTS) }
+        ensures few { IfOk result (λ script. length script.names ≤ most_clients) }
     {
         let budgets = self.room_for(&item, number)?;
         self.with_room(alloc, name, item, budgets, number)
@@ -118,9 +118,9 @@ impl Script {
         number: u64,
     ) -> Result<Script, Fault>
         requires utf8 { IsUtf8 name.now }
-        requires few { length self.names ≤ MOST_CLIENTS }
+        requires few { length self.names ≤ most_clients }
         ensures is { Answers result (with_room number self (name.now, item) budgets) }
-        ensures few { IfOk result (λ script. length script.names ≤ MOST_CLIENTS) }
+        ensures few { IfOk result (λ script. length script.names ≤ most_clients) }
     {
         let Script { names, items, .. } = self;
         let (client, names) = client_with(alloc, names, name, number)?;
@@ -163,9 +163,9 @@ fn client_with(
     number: u64,
 ) -> Result<(u32, Listed<Text>), Fault>
     requires utf8 { IsUtf8 name.now }
-    requires few { length names ≤ MOST_CLIENTS }
+    requires few { length names ≤ most_clients }
     ensures is { Answers result (client_with number names name.now) }
-    ensures few { IfOk result (λ found. length found.1 ≤ MOST_CLIENTS) }
+    ensures few { IfOk result (λ found. length found.1 ≤ most_clients) }
 {
     let place = place_of(names.as_slice(), name);
     if place < names.len() {

@@ -13,8 +13,8 @@ use crate::line_fault::LineFault;
 use crate::sent_tokens::SentTokens;
 use prd_reader::{Prefixes, TextPool, text_of};
 use rif_lex::{Kind, Token, tokens_into};
-use rif_refusals::limits::MOST_NAME_CHARACTERS;
 use rif_refusals::Fault;
+use rif_refusals::limits::MOST_NAME_CHARACTERS;
 use rif_values::OutOfMemory;
 use session_states::Item;
 

@@ -5,7 +5,10 @@ ghost use Rattle.std.specs.List.{list_all};
 ghost use Rattle.rif_script.specs.Simple.{are_distinct, declared_vars, has_no_such_that, is_in_condition};
 ghost use Rattle.rif_script.specs.Simple.{is_plain_action, is_plain_condition, is_plain_target, is_simple_rule};
 
-use crate::simple_formula::{are_plain_pairs, are_plain_terms, declares, has_var, is_in_patterns, is_plain_formula, is_plain_term};
+use crate::simple_formula::{
+    are_plain_pairs, are_plain_terms, declares, has_var, is_in_patterns, is_plain_formula,
+    is_plain_term,
+};
 use rif_tree::{Action, Formula, Level, Rule, Target};
 
 /// Whether a rule is one that a run can evaluate yet. It allocates nothing.

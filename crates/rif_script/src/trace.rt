@@ -1,9 +1,11 @@
 //! The text of a run.
 ghost use Rattle.std.specs.Prelude.{◌≡◌, ◌++◌, OnErr, OnOk, Some, codes};
 ghost use Rattle.std.specs.List.{flat_map};
+ghost use Rattle.std.specs.Option.{option_copied};
 ghost use Rattle.rif_script.specs.Lines.{entry_line};
 ghost use Rattle.rif_values.specs.Bindings.{value_at};
-ghost use Rattle.rif_script.specs.Trace.{forall_vars, bound_text, var_text, act_word, pick_text, fact_line};
+ghost use Rattle.rif_tree.specs.Rules.{forall_variables, rule_of};
+ghost use Rattle.rif_script.specs.Trace.{bound_text, text_of_variable, row_text, act_word, pick_text, fact_line};
 ghost use Rattle.rif_script.specs.Trace.{effect_text, act_text, turn_text, turns_text, firing_count, end_line};
 ghost use Rattle.rif_script.specs.Trace.{run_text};
 
@@ -98,25 +100,48 @@ fn push_pick(out: &mut Vec<u8>, doc: &Doc, pick: &Option<Instance>) -> Result<()
     };
     out.push(b' ')?;
     push_number(out, u64::from(pick.rule))?;
-    match doc.rules.get((pick.rule as usize).saturating_sub(1)) {
+    match rule_of(doc, pick.rule) {
         Some(rule) => push_row(out, rule, &pick.row),
         None => Ok(()),
     }
 }
 
+// The rule of a number, counted from 1, where there is one.
+fn rule_of(doc: &Doc, number: u32) -> Option<&Rule>
+    ensures { option_copied result ≡ rule_of doc.now number }
+{
+    match number.checked_sub(1) {
+        Some(place) => doc.rules.get(place as usize),
+        None => None,
+    }
+}
+
 // Appends the names and values of a rule's `Forall` variables.
+#[tactic(auto, using(crate::proofs::RowLemmas::row_is_shown))]
 fn push_row(out: &mut Vec<u8>, rule: &Rule, row: &Binding) -> Result<(), OutOfMemory>
+    ensures { OnOk result (out.new.items ≡ out.old.items ++ row_text (Some rule.now) row.now) }
+{
+    push_levels(out, rule, row)
+}
+
+fn push_levels(out: &mut Vec<u8>, rule: &Rule, row: &Binding) -> Result<(), OutOfMemory>
     ensures { OnOk result (out.new.items ≡
-        out.old.items ++ flat_map (var_text rule.now row.now) (forall_vars rule.now)) }
+        out.old.items ++ flat_map (text_of_variable rule.now row.now) (forall_variables rule.now)) }
 {
     for level in rule.levels.as_slice() {
-        push_vars(out, rule, row, level.vars.as_slice())?;
+        push_variables(out, rule, row, level.vars.as_slice())?;
     }
     Ok(())
 }
 
-fn push_vars(out: &mut Vec<u8>, rule: &Rule, row: &Binding, vars: &[u32]) -> Result<(), OutOfMemory>
-    ensures { OnOk result (out.new.items ≡ out.old.items ++ flat_map (var_text rule.now row.now) vars.now) }
+fn push_variables(
+    out: &mut Vec<u8>,
+    rule: &Rule,
+    row: &Binding,
+    vars: &[u32],
+) -> Result<(), OutOfMemory>
+    ensures { OnOk result (out.new.items ≡
+        out.old.items ++ flat_map (text_of_variable rule.now row.now) vars.now) }
 {
     for var in vars {
         out.extend_from_slice(b" ?")?;

@@ -1,4 +1,7 @@
 -- The text of the run of a job, and the refusal of a run.
+--     IsRunOf job text                 the text is that of the job's run
+--     IsRunText input text             the text is that of the run of the job that an input is
+--     IsRunRefused input refusal       the input has this refusal, or it is a job that can't be evaluated yet
 -- Source: the project's own (docs/FORMATS.md, "Jobs", "What `run` evaluates" and "The trace"; docs/PROFILE.md,
 -- "Replay").
 use Rattle.std.specs.Prelude.{◌≡◌, ◌⊎◌, ℕ, true, false, List}
@@ -7,22 +10,29 @@ use Rattle.rif_refusals.specs.declared.fault.Fault.TheVariants.{Refused, OutOfMe
 use Rattle.rif_refusals.specs.declared.refusal.Refusal.{Refusal}
 use Rattle.rif_refusals.specs.declared.refusal.Refusal.TheVariants.{LeftOut}
 use Rattle.session_states.specs.declared.item.Entry.{Entry}
-use Rattle.prd_relation.specs.Runs.{IsReplay, run_of, facts_at_end}
+use Rattle.prd_relation.specs.FactsOfTurns.{fact_count_of}
+use Rattle.prd_relation.specs.RuleSystem.{system_of}
+use Rattle.prd_relation.specs.Runs.{AreLawful, IsReplay, run_of}
 use Rattle.rif_script.specs.declared.job.Job.{Job}
 use Rattle.rif_script.specs.Cutting.{script_entries, batches_of_entries, left_of_entries}
 use Rattle.rif_script.specs.Jobs.{IsJob, IsRefused}
 use Rattle.rif_script.specs.Simple.{is_simple_job}
 use Rattle.rif_script.specs.Trace.{run_text}
 
--- the text is that of the run of these batches, with what is left of the job's script
+-- the text is that of the run of these batches, with what is left of the job's script, and with the number of facts
+-- that the run's turns leave
 abbrev pub IsTextOf : Job → List (List Entry) → List ℕ → Type 0
 IsTextOf job batches text =
-    text ≡ run_text job (run_of job.doc batches) (left_of_entries (script_entries job)) (facts_at_end job.doc batches)
+    let turns = run_of (system_of job.doc) batches in
+    text ≡ run_text job turns (left_of_entries (script_entries job)) (fact_count_of turns)
 
--- the text is that of the job's run: of the batches of its script, with an empty one after each firing
-abbrev pub IsRunOf : Job → List ℕ → Type 0
-IsRunOf job text =
-    (batches : List (List Entry)) × IsReplay job.doc (batches_of_entries (script_entries job)) batches × IsTextOf job batches text
+-- the text is that of the job's run: of the batches of its script, with an empty one after each firing, which are
+-- lawful batches of a run
+pub record IsRunOf (job : Job) (text : List ℕ) : Type 0 where
+  pub batches : List (List Entry)
+  pub replayed : IsReplay (system_of job.doc) (batches_of_entries (script_entries job)) batches
+  pub lawful : AreLawful (system_of job.doc) batches
+  pub text_is : IsTextOf job batches text
 
 -- the input is this job, and a run can evaluate it
 pub record IsSimpleJob (input : List ℕ) (job : Job) : Type 0 where
