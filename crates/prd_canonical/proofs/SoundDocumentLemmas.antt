@@ -25,8 +25,8 @@ at_most_is : (a b : ℤ) → a ≤ℤ b → int_le a b ≡ true
 at_most_is a b h = grind (arith, ints)
 
 is_in_range : (z : ℤ) → InRange z → is_priority z ≡ true
-is_in_range z ok = and_from (int_le (neg_ℤ most_priority) z) (int_le z most_priority)
-    (at_most_is (neg_ℤ most_priority) z ok.low) (at_most_is z most_priority ok.high)
+is_in_range z ok = and_from (int_le (neg_ℤ (pos most_priority)) z) (int_le z (pos most_priority))
+    (at_most_is (neg_ℤ (pos most_priority)) z ok.low) (at_most_is z (pos most_priority) ok.high)
 
 first_in_range : (rs more : List Rule) → AreInRange (rs ++ more) → AreInRange rs
 first_in_range [] more ok = tt

@@ -4,7 +4,7 @@
 --     IsFront ls                  some document begins with these leaves
 --     IsRefusedAt ls place cause  the first leaf at which a refusal stands, and the one that decides there
 -- Source: the project's own (docs/FORMATS.md, "Refusals").
-use Rattle.std.specs.Prelude.{◌≡◌, ◌⊎◌, ◌≤◌, ◌<◌, ℕ, ◌+◌, ◌&&◌, not, nat_le, ℤ, neg_ℤ, int_le, Bool, true, false}
+use Rattle.std.specs.Prelude.{pos, ◌≡◌, ◌⊎◌, ◌≤◌, ◌<◌, ℕ, ◌+◌, ◌&&◌, not, nat_le, ℤ, neg_ℤ, int_le, Bool, true, false}
 use Rattle.std.specs.Prelude.{if◌then◌else◌, List, ◌∷◌, ◌++◌, length, take, get_or, Option, Some, None, codes}
 use Rattle.std.specs.Prelude.{bytes_eq}
 use Rattle.rif_refusals.specs.Limits.{most_open_brackets, most_rules, most_variables}
@@ -80,7 +80,7 @@ is_bad_strategy in_head (Curie (Some t)) = in_head && not (is_forward_chaining t
 is_bad_strategy in_head _ = false
 
 abbrev pub is_priority : ℤ → Bool
-is_priority z = int_le (neg_ℤ most_priority) z && int_le z most_priority
+is_priority z = int_le (neg_ℤ (pos most_priority)) z && int_le z (pos most_priority)
 
 abbrev pub is_bad_priority : Bool → Leaf → Bool
 is_bad_priority in_head (Int (Some z)) = in_head && not (is_priority z)

@@ -24,7 +24,7 @@ pub(crate) fn behind_sign(text: &[u8]) -> &[u8]
     }
 }
 
-/// The text between the first and the last byte.
+/// The text between the first and the last byte; in constant time.
 pub fn inner(text: &[u8]) -> &[u8]
     ensures { result.now ≡ inner text.now }
 {
@@ -39,7 +39,7 @@ pub(crate) fn before_colon(text: &[u8]) -> &[u8]
     &text[..colon_of(text)]
 }
 
-/// What stands behind the first colon.
+/// What stands behind the first colon, or nothing where there is none. It goes over the text up to the colon.
 pub fn behind_colon(text: &[u8]) -> &[u8]
     ensures { result.now ≡ drop (suc (length (before_colon text.now))) text.now }
 {

@@ -19,8 +19,8 @@ use Rattle.prd_grammar.specs.Values.{priority_in, group_rules, member_rules, rul
 use Rattle.prd_limits.proofs.CountingLimitLemmas.{Clear, passed}
 
 pub record InRange (z : ℤ) : Type 0 where
-  pub low : neg_ℤ most_priority ≤ℤ z
-  pub high : z ≤ℤ most_priority
+  pub low : neg_ℤ (pos most_priority) ≤ℤ z
+  pub high : z ≤ℤ (pos most_priority)
 
 abbrev pub AreInRange : List Rule → Type 0
 AreInRange [] = Unit {0}
@@ -36,8 +36,8 @@ at_most a b h = grind (arith, ints)
 
 in_range : (z : ℤ) → is_priority z ≡ true → InRange z
 in_range z e =
-    let both = both_true (int_le (neg_ℤ most_priority) z) (int_le z most_priority) e in
-    record { low = at_most (neg_ℤ most_priority) z both.0; high = at_most z most_priority both.1 }
+    let both = both_true (int_le (neg_ℤ (pos most_priority)) z) (int_le z (pos most_priority)) e in
+    record { low = at_most (neg_ℤ (pos most_priority)) z both.0; high = at_most z (pos most_priority) both.1 }
 
 clear_apart : (xs ys : List Leaf) (p : Progress) → Clear p (xs ++ ys) → Clear (progress_from p xs) ys
 clear_apart [] ys p clear = clear

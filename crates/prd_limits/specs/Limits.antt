@@ -1,6 +1,7 @@
 -- What holds of every document that is read: it keeps the limits, and each variable is a place in its rule's names.
 -- Source: the project's own (docs/FORMATS.md, "Limits").
-use Rattle.std.specs.Prelude.{max, suc, ◌≡◌, ◌≤◌, ◌≤ℤ◌, ℕ, ◌+◌, neg_ℤ, List, [], ◌∷◌, length, map, Option, Some, None}
+use Rattle.std.specs.Prelude.{pos, max, suc, ◌≡◌, ◌≤◌, ◌≤ℤ◌, ℕ, ◌+◌, neg_ℤ, List, [], ◌∷◌, length, map, Option, Some}
+use Rattle.std.specs.Prelude.{None}
 use Rattle.rif_refusals.specs.Limits.{most_rules, most_variables, most_patterns, most_actions}
 use Rattle.rif_refusals.specs.Limits.{most_priority}
 use Rattle.rif_tree.specs.declared.tree.Term.{Term}
@@ -57,8 +58,8 @@ condition_patterns None = 0
 condition_patterns (Some f) = pattern_count f
 
 pub record KeepsRuleLimits (r : Rule) : Type 0 where
-  pub low : neg_ℤ most_priority ≤ℤ r.priority
-  pub high : r.priority ≤ℤ most_priority
+  pub low : neg_ℤ (pos most_priority) ≤ℤ r.priority
+  pub high : r.priority ≤ℤ (pos most_priority)
   pub names : length r.names ≤ most_variables
   pub patterns : level_patterns r.levels + condition_patterns r.condition ≤ most_patterns
   pub actions : length r.actions ≤ most_actions

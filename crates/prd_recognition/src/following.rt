@@ -36,7 +36,13 @@ pub fn is_done(stack: &VecDeque<Want>) -> bool
     stack.is_empty()
 }
 
-/// What has still to come behind one more leaf. False where it can't come.
+/// What has still to come behind one more leaf, the first of it in front. The answer is false where the leaf can't
+/// come; then, and after want of memory, what has still to come is left open.
+///
+/// It takes constant time, but where a variable's name has to come again, which is compared; and memory for what comes
+/// in place of the first.
+///
+/// Source: our own (docs/FORMATS.md, "Grammar").
 pub fn advance(stack: &mut VecDeque<Want>, leaf: &Leaf) -> Result<bool, OutOfMemory>
     ensures { IfOk result (λ can. Steps can leaf.now stack.old.items stack.new.items) }
 {

@@ -23,7 +23,13 @@ pub enum Outcome {
     Refused { place: usize, cause: Cause },
 }
 
-/// What the leaves lead to, in time linear in their number.
+/// What the leaves lead to: a document at which no refusal stands, or the refusal that decides. An error is want of
+/// memory.
+///
+/// One pass over the leaves. It takes memory for the open brackets, for what has still to come, and for the names of
+/// the rules, whose texts are shared.
+///
+/// Source: our own (docs/FORMATS.md, "Grammar" and "Refusals").
 pub fn recognize(alloc: Global, leaves: &[Leaf]) -> Result<Outcome, OutOfMemory>
     ensures { IfOk result (LeadsTo leaves.now) }
 {

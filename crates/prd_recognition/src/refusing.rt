@@ -197,7 +197,9 @@ pub fn unexpected(leaf: &Leaf) -> Cause
     }
 }
 
-/// The refusal for a cause at a line and a column.
+/// The refusal for a cause at a line and a column; in constant time.
+///
+/// Source: our own (docs/FORMATS.md, "Refusals").
 pub fn refusal_at(cause: Cause, line: u64, col: u64) -> Refusal
     ensures { result ≡ refusal_at cause line col }
 {
@@ -216,6 +218,8 @@ pub fn refusal_at(cause: Cause, line: u64, col: u64) -> Refusal
 }
 
 /// The line and the column of a refusal of a document; another refusal has none there. In constant time.
+///
+/// Source: our own (docs/FORMATS.md, "Refusals").
 pub fn place_of_refusal(refusal: &Refusal) -> Option<(u64, u64)>
     ensures { result ≡ place_of_refusal refusal.now }
 {

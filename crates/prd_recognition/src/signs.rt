@@ -15,7 +15,9 @@ pub fn begins_rule(leaf: &Leaf) -> bool
     }
 }
 
-/// Whether a leaf is a term's, or its first.
+/// Whether a leaf is a term's, or its first; in constant time.
+///
+/// Source: our own (docs/FORMATS.md, "Grammar").
 pub fn is_term(leaf: &Leaf) -> bool
     ensures { result ≡ is_term leaf.now }
 {

@@ -2,6 +2,8 @@ use rif_values::Text;
 
 /// What has still to come. A list and the bracket that ends it are one want, so that each begins with a
 /// leaf, and that leaf decides.
+///
+/// Source: our own (docs/FORMATS.md, "Grammar").
 #[derive(Drop)]
 pub enum Want {
     Document,
