@@ -1,11 +1,14 @@
--- When a chosen instance fires.
-use Rattle.std.proofs.Common.{◌≡◌, ℕ, zero, suc, ◌-◌, ◌<◌, Some, ap, arith}
+-- What an act comes to: a chosen instance fires where the budget isn't spent, and nothing chosen is quiet or rests.
+use Rattle.std.proofs.Common.{◌≡◌, ℕ, zero, suc, ◌-◌, ◌<◌, Some, None, refl, ap, ◌∙◌, arith}
 use Rattle.session_states.specs.declared.state.State.{State}
-use Rattle.session_states.specs.declared.state.State.TheVariants.{Firing, UntilHalt}
+use Rattle.session_states.specs.declared.state.State.TheVariants.{Idle, Firing, UntilHalt}
+use Rattle.session_states.specs.declared.turn.Act.TheVariants.{StoppedQuiet, Resting}
 use Rattle.rif_values.specs.declared.instance.Instance.{Instance}
 use Rattle.prd_relation.specs.RuleSystem.{RuleSystem}
 use Rattle.std.specs.declared.option.Option.{Option}
-use Rattle.prd_relation.specs.Turns.{Session, outcome_in, with_budget, firing_of, block_at}
+use Rattle.prd_relation.specs.declared.session.PlainSession.{PlainSession}
+use Rattle.prd_relation.specs.Session.{Shows}
+use Rattle.prd_relation.specs.Turns.{Session, outcome_in, with_budget, firing_of, block_at, unfired}
 
 with_some : (system : RuleSystem) (s : Session) (next : ℕ → State) (left : ℕ) (i : Instance) → 0 < left
     → with_budget system s next left i ≡ firing_of s (next (left - 1)) i (block_at system s i)
@@ -24,3 +27,29 @@ pub outcome_until : (system : RuleSystem) (s : Session) (left : ℕ) (i : Instan
     → state ≡ UntilHalt left → choice ≡ Some i
     → 0 < left → outcome_in system s state choice ≡ firing_of s (UntilHalt (left - 1)) i (block_at system s i)
 outcome_until system s left i state choice is chosen some = rw (is, chosen) (with_some system s UntilHalt left i some)
+
+-- nothing is chosen
+pub outcome_quiet : (system : RuleSystem) (s : Session) (left : ℕ) (state : State) (choice : Option Instance)
+    → state ≡ Firing left → choice ≡ None → outcome_in system s state choice ≡ unfired StoppedQuiet Idle s
+outcome_quiet system s left state choice is none = rw (is, none) refl
+
+pub outcome_resting : (system : RuleSystem) (s : Session) (left : ℕ) (state : State) (choice : Option Instance)
+    → state ≡ UntilHalt left → choice ≡ None
+    → outcome_in system s state choice ≡ unfired Resting (UntilHalt left) s
+outcome_resting system s left state choice is none = rw (is, none) refl
+
+-- a session that another state is put into
+pub shows_in : (system : RuleSystem) (old new : PlainSession) (s : Session) (state : State)
+    → new ≡ record old { state = state } → Shows system old s → Shows system new (record s { state = state })
+shows_in system old new s state is shown = record {
+  state = ap (λ (p : PlainSession). p.state) is;
+  facts = ap (λ (p : PlainSession). p.facts) is ∙ shown.facts;
+  moments = ap (λ (p : PlainSession). p.history) is ∙ shown.moments;
+  made = ap (λ (p : PlainSession). p.made) is ∙ shown.made;
+}
+
+-- and a session whose state it is already
+pub shows_state : (system : RuleSystem) (plain : PlainSession) (s : Session) (state : State) → plain.state ≡ state
+    → Shows system plain s → Shows system plain (record s { state = state })
+shows_state system plain s state is shown =
+    record { state = is; facts = shown.facts; moments = shown.moments; made = shown.made }

@@ -8,7 +8,7 @@ use Rattle.prd_relation.proofs.replay.make_turns.Given as goal
 abbrev pub invariant-loop-fired : goal.invariant-loop-fired
 invariant-loop-fired l =
     (given left : List (List Entry))
-    → IsReplayed l.fn.doc given (l.fn.batch ∷ left) false l.fn.turns.items l.fn.session
+    → IsReplayed (system_of l.fn.doc) given (l.fn.batch ∷ left) false l.fn.turns.items l.fn.session
     → IsReplayed (system_of l.doc) given left l.fired l.turns.items l.session
 
 abbrev pub decreases-loop-fired : goal.decreases-loop-fired
