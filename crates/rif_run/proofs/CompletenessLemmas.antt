@@ -89,7 +89,7 @@ front_refused_by : (input : List ℕ) (refusal : Refusal) (size : (length input 
 front_refused_by input refusal (inl short) refused =
     subst (λ (i : List ℕ). IsRefused i refusal) (sym (take_all most_bytes_read input (omega (arith, short)))) refused
 front_refused_by input refusal (inr long) (inl too_long) = inl (too_long.0, long_front input long)
-front_refused_by input refusal (inr long) (inr (inl broken)) = absurd (omega (arith, long, broken.2.1))
+front_refused_by input refusal (inr long) (inr (inl broken)) = absurd (omega (arith, long, broken.2))
 front_refused_by input refusal (inr long) (inr (inr other)) = absurd (omega (arith, long, other.0.short))
 
 compare : (a b : ℕ) (r : Bool) → nat_le a b ≡ r → (a ≤ b) ⊎ (b < a)
