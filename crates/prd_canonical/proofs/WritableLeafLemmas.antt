@@ -1,6 +1,6 @@
 -- The leaves of tokens can be written so that they are read back.
-use Rattle.std.proofs.Common.{◌≡◌, ℕ, Bool, true, false, cond, List, [], ◌∷◌, map, refl, Some, Ok, IsUtf8, bytes_eq}
-use Rattle.std.proofs.Common.{if◌then◌else◌}
+use Rattle.std.proofs.Common.{◌≡◌, ℕ, Bool, true, false, cond, List, [], ◌∷◌, map, refl, Some, None, Ok, IsUtf8}
+use Rattle.std.proofs.Common.{bytes_eq, if◌then◌else◌}
 use Rattle.std.specs.Prelude.{Option, codes}
 use Rattle.std.specs.List.{AllByRecursion}
 use Rattle.std.proofs.lemmas.List.Elements.{recursion_from_All}

@@ -13,6 +13,7 @@ use crate::spot::Spot;
 use crate::unreadable::push_unreadable;
 use prd_grammar::Leaf;
 use prd_leaves::{leaves, text_of};
+use prd_recognition::place_of_refusal;
 use rif_lex::Token;
 use rif_refusals::Refusal;
 use rif_values::OutOfMemory;
