@@ -1,5 +1,6 @@
 pub mod AnswerLemmas
 pub mod CompletenessLemmas
 pub mod RunLemmas
+pub mod TextLemmas
 pub mod WordLemmas
 pub mod WritingLemmas

@@ -2,6 +2,7 @@
 use Rattle.std.proofs.Common.{zero, suc, lit<, ◌≡◌, ◌≢◌, ℕ, ◌<◌, ◌+◌, ◌==◌, ◌||◌, Bool, true, false, List, [], ◌∷◌}
 use Rattle.std.proofs.Common.{◌++◌, ◌-◌, length, refl, sym, ap, ◌∙◌, cond, subst, take, drop, length-append}
 use Rattle.std.proofs.Common.{Some, slice_get, arith}
+use Rattle.std.proofs.lemmas.List.{append-nil}
 use Rattle.std.specs.Option.{option_map_or}
 use Rattle.std.specs.declared.option.Option.{Option}
 use Rattle.rif_refusals.specs.Limits.{most_batch_items}
@@ -11,6 +12,7 @@ use Rattle.session_states.specs.Batches.{AreLawfulBatches, AreLawfulBehind, IsLa
 use Rattle.session_states.specs.Batches.{is_disposing, joined}
 use Rattle.rif_script.specs.Cutting.{batches_behind, ends_behind, is_control, served_count, with_first}
 use Rattle.rif_script.specs.CuttingLaws.{AreEnded, ControlsLast, CutEndsBatches, CutIsLawful, CutKeepsAll}
+use Rattle.rif_script.specs.CuttingLaws.{CutLeavesBehindDispose}
 use Rattle.rif_script.proofs.CuttingLemmas.{AreChanges, AreChanges-snoc, batches_after, batches_where, closes}
 use Rattle.rif_script.proofs.CuttingLemmas.{goes_on, joined_first-alone, lawful_begun, lawful_closed, neither}
 use Rattle.rif_script.proofs.CuttingLemmas.{room_joined}
@@ -176,3 +178,36 @@ ended_from begun (entry ∷ entries) changes =
 
 pub cut_ends_batches : CutEndsBatches
 cut_ends_batches entries = ended_from [] (take (served_count entries) entries) tt
+
+-- entries behind another end as they do without it
+ends_in_behind : (test : Item → Bool) (entry : Entry) (entries : List Entry) → ends_in test entries ≡ true →
+    ends_in test (entry ∷ entries) ≡ true
+ends_in_behind test entry [] ended = cc
+ends_in_behind test entry (next ∷ entries) ended =
+    let long : length (entry ∷ next ∷ entries) - 1 ≡ suc (length entries) = omega arith in
+    let short : length (next ∷ entries) - 1 ≡ length entries = omega arith in
+    let last = λ (o : Option Entry). option_map_or (λ (e : Entry). test e.item) o false in
+    ap (λ (n : ℕ). last (slice_get (entry ∷ next ∷ entries) n)) long
+    ∙ sym (ap (λ (n : ℕ). last (slice_get (next ∷ entries) n)) short)
+    ∙ ended
+
+-- where entries are left behind those that are served, these end in a Dispose
+abbrev LeavesBehind : ℕ → List Entry → Type 0
+LeavesBehind served entries = drop served entries ≢ [] → ends_in is_dispose (take served entries) ≡ true
+
+leaves_by : (entry : Entry) (entries : List Entry) (ends : Bool) → is_dispose entry.item ≡ ends →
+    LeavesBehind (served_count entries) entries →
+    LeavesBehind (cond ends 1 (suc (served_count entries))) (entry ∷ entries)
+leaves_by entry entries true is behind some = is
+leaves_by entry entries false is behind some =
+    ends_in_behind is_dispose entry (take (served_count entries) entries) (behind some)
+
+leaves_behind : (entries : List Entry) → LeavesBehind (served_count entries) entries
+leaves_behind [] some = absurd (some refl)
+leaves_behind (entry ∷ entries) some =
+    leaves_by entry entries (is_dispose entry.item) refl (leaves_behind entries) some
+
+pub cut_leaves_behind_dispose : CutLeavesBehindDispose
+cut_leaves_behind_dispose entries some =
+    let served = take (served_count entries) entries in
+    ap (ends_in is_dispose) (joined-batches_behind 0 served [] ∙ append-nil served) ∙ leaves_behind entries some

@@ -1,6 +1,7 @@
 //! Laws of the definitions: functions without parameters, whose bodies are empty.
 ghost use Rattle.rif_script.specs.CheckedText.{CheckedTextIsAJob};
-ghost use Rattle.rif_script.specs.CuttingLaws.{CutEndsBatches, CutIsLawful, CutKeepsAll, EntriesFollowScripts};
+ghost use Rattle.rif_script.specs.CuttingLaws.{CutEndsBatches, CutIsLawful, CutKeepsAll, CutLeavesBehindDispose};
+ghost use Rattle.rif_script.specs.CuttingLaws.{EntriesFollowScripts};
 ghost use Rattle.rif_script.specs.JobClients.{JobsHaveClients};
 ghost use Rattle.rif_script.specs.Jobs.{OneOutcome};
 ghost use Rattle.rif_script.specs.TraceLaws.{SameTextSameRun};
@@ -18,6 +19,11 @@ pub fn cut_is_lawful()
 /// Law: a control item ends its batch, and a batch before the last ends in one or is full.
 pub fn cut_ends_batches()
     ensures { CutEndsBatches }
+{}
+
+/// Law: where entries are left, a Dispose ends those in the batches: nothing else leaves any.
+pub fn cut_leaves_behind_dispose()
+    ensures { CutLeavesBehindDispose }
 {}
 
 /// Law: a client's entries are its items in order, with the ranks 0, 1, 2 and so on.
