@@ -33,12 +33,12 @@ parts_of true false h = absurd (cc h)
 parts_of false b h = absurd (cc h)
 
 -- what a filter leaves was there and passes
-kept : (p : Instance → Bool) (xs : List Instance) (i : Instance) → has instance_cmp (filter p xs) i ≡ true
+pub kept : (p : Instance → Bool) (xs : List Instance) (i : Instance) → has instance_cmp (filter p xs) i ≡ true
     → (p i ≡ true) × (has instance_cmp xs i ≡ true)
 kept p xs i there = parts_of (p i) (has instance_cmp xs i) (sym (has_filter total_instances exact_instances p xs i)
     ∙ there)
 
-negated : (b : Bool) → not b ≡ true → b ≡ false
+pub negated : (b : Bool) → not b ≡ true → b ≡ false
 negated true h = absurd (cc h)
 negated false h = refl
 
@@ -99,7 +99,7 @@ neither true b h = absurd (cc h)
 neither false b h = (refl, h)
 
 -- a test that no element passes
-none_passes : (p : Instance → Bool) (xs : List Instance) (j : Instance) → list_any p xs ≡ false
+pub none_passes : (p : Instance → Bool) (xs : List Instance) (j : Instance) → list_any p xs ≡ false
     → has instance_cmp xs j ≡ true → p j ≡ false
 none_passes p [] j none there = absurd (cc there)
 none_passes p (x ∷ xs) j none there =

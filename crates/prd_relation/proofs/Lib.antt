@@ -1,6 +1,9 @@
+pub mod ActLemmas
+pub mod AllowedLemmas
 pub mod ChoiceLemmas
 pub mod ChosenLemmas
 pub mod HistoryLemmas
+pub mod PickLemmas
 pub mod PlainLemmas
 pub mod ReplayLawLemmas
 pub mod ReplayLemmas

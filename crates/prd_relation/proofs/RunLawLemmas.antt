@@ -45,7 +45,7 @@ item_fires_not (Until more) fired = cc fired
 item_fires_not Halt fired = cc fired
 item_fires_not Dispose fired = cc fired
 
-entry_fires_not : (entry : Option Entry) → option_and_then (λ e. ending_item e.item) entry ≡ Some Fired → ⊥
+pub entry_fires_not : (entry : Option Entry) → option_and_then (λ e. ending_item e.item) entry ≡ Some Fired → ⊥
 entry_fires_not None fired = cc fired
 entry_fires_not (Some entry) fired = item_fires_not entry.item fired
 

@@ -65,7 +65,7 @@ is_refracted (newest ∷ earlier) i =
     has_instance newest i
     && ((has instance_cmp (newest_conflict_set earlier) i && is_pick newest.pick i) || is_refracted earlier i)
 
--- the conflict set of the newest of these states hasn't the instance
+-- the conflict set of the newest of these states hasn't the instance, or there are none
 abbrev pub Interrupts : List Moment → Instance → Type 0
 Interrupts [] i = Unit {0}
 Interrupts (moment ∷ moments) i = has_instance moment i ≡ false

@@ -6,6 +6,8 @@ ghost use Rattle.prd_relation.specs.Laws.{AreAgesSaid, IsRefractionSaid, AreOthe
 ghost use Rattle.prd_relation.specs.Laws.{ChoosesUnrefracted, ChoosesLeast, ChoosesBest, ChoosesWhereItCan};
 ghost use Rattle.prd_relation.specs.Laws.{AreFiringsStates, ReachHistories, TellTheirFacts};
 ghost use Rattle.prd_relation.specs.Laws.{DisposesEnd, IsReplayOne, AreReplaysLawful};
+ghost use Rattle.prd_relation.specs.Laws.{AllowsTheBest, PickTheChosen};
+ghost use Rattle.prd_relation.specs.Laws.{FiresTheChosen, OthersKeepHistories, StopsWhereItMust};
 
 /// Law: the age is how many of the newest states in a row have the instance in their conflict sets.
 pub fn ages_count_states_in_a_row()
@@ -73,4 +75,32 @@ pub fn one_replay()
 /// Law: where the given batches are lawful, the batches of a replay are those of a run.
 pub fn replays_are_lawful()
     ensures { AreReplaysLawful }
+{}
+
+/// Law: an instance is allowed exactly where it is in the newest conflict set and isn't refracted, no
+/// unrefracted instance has a rule of higher priority, and none whose rule has no lower priority is younger.
+pub fn the_allowed_are_the_best()
+    ensures { AllowsTheBest }
+{}
+
+/// Law: along a run each pick was what is chosen in the history before it.
+pub fn picks_of_runs_are_chosen()
+    ensures { PickTheChosen }
+{}
+
+/// Law: where a turn fires, its pick is what is chosen after its batch, and its effect and the one state that
+/// it leads to are those of the pick's block.
+pub fn a_firing_is_of_the_chosen()
+    ensures { FiresTheChosen }
+{}
+
+/// Law: every other turn picks nothing, has no effect, and adds no state and no object to those of its batch.
+pub fn other_turns_keep_the_history()
+    ensures { OthersKeepHistories }
+{}
+
+/// Law: what each act says of its batch, of the state and of the choice; so a turn stops or rests only where
+/// each instance is refracted, or where the budget is spent.
+pub fn turns_stop_where_they_must()
+    ensures { StopsWhereItMust }
 {}

@@ -1,3 +1,4 @@
+pub mod BoundRowLemmas
 pub mod CallerLemmas
 pub mod ConflictSetLemmas
 pub mod ListingLemmas
