@@ -1,22 +1,18 @@
 -- Which instances a conflict set has.
-use Rattle.std.proofs.Common.{◌≡◌, ◌∙◌, ℕ, zero, suc, ◌+◌, Bool, true, false, ◌||◌, List, [], ◌∷◌, ◌++◌}
-use Rattle.std.proofs.Common.{map, slice_get, Some, None, refl, ap, sym, subst, ◌⊎◌, inl, inr, arith}
+use Rattle.std.proofs.Common.{◌≡◌, ◌∙◌, ℕ, zero, suc, ◌+◌, Bool, true, false, ◌||◌, List, [], ◌∷◌}
+use Rattle.std.proofs.Common.{map, slice_get, Some, refl, ap, sym, ◌⊎◌, inl, inr, arith}
 use Rattle.std.specs.Ordering.{eq_by_cmp, is_eq, nat_cmp, ordering_then}
-use Rattle.std.specs.declared.option.Option.{Option}
 use Rattle.rif_values.proofs.CallerLemmas.{total_bindings, exact_bindings, total_instances, exact_instances}
 use Rattle.rif_sets.proofs.CallerLemmas.{equal_is, equal_itself, has_append}
-use Rattle.rif_values.specs.declared.fact.Fact.{Fact}
 use Rattle.rif_values.specs.declared.instance.Instance.{Instance}
-use Rattle.rif_tree.specs.declared.rule.Doc.{Doc}
 use Rattle.rif_tree.specs.declared.rule.Rule.{Rule}
-use Rattle.rif_tree.specs.Rules.{rule_of}
 use Rattle.rif_values.specs.InstanceOrder.{instance_cmp}
 use Rattle.rif_values.specs.Order.{binding_cmp}
 use Rattle.rif_values.specs.Numbers.{nth_of}
 use Rattle.rif_values.specs.Sets.{has}
 use Rattle.rif_values.specs.Bindings.{Row}
 use Rattle.rif_builtins.specs.Extensions.{FactBase, base_of}
-use Rattle.rif_match.specs.ConflictSet.{rows_of, instance_of, instances_from, conflict_set}
+use Rattle.rif_match.specs.ConflictSet.{rows_of, instance_of, instances_from}
 use Rattle.rif_match.specs.Laws.{HaveInstancesOfTheirRows}
 
 either : (a b : Bool) → (a || b) ≡ true → (a ≡ true) ⊎ (b ≡ true)
