@@ -57,10 +57,10 @@ formula_of e = e.0
 abbrev formulas_of : Formula-F KnownHolds → Formula-F Formula
 formulas_of y = map-Formula KnownHolds Formula formula_of y
 
-abbrev scope_of : Formula → List ℕ → Bool
+abbrev pub scope_of : Formula → List ℕ → Bool
 scope_of = fold-Formula (List ℕ → Bool) scoped_step
 
-abbrev all_scoped : List Formula → List ℕ → Bool
+abbrev pub all_scoped : List Formula → List ℕ → Bool
 all_scoped fs held = list_all (λ (scope : List ℕ → Bool). scope held) (map scope_of fs)
 
 each_holds : (es : List KnownHolds) (held : List ℕ) → all_scoped (map formula_of es) held ≡ true
@@ -131,7 +131,7 @@ apart_from held (u ∷ us) v apart has =
     apart_at held us u v (has_variable held u) (u == v) refl refl
     (λ more one. apart_from held us v more one) apart has
 
-declared_apart : (held bound vs : List ℕ) → has_all held bound ≡ true → has_none held vs ≡ true
+pub declared_apart : (held bound vs : List ℕ) → has_all held bound ≡ true → has_none held vs ≡ true
     → (v : ℕ) → has_variable bound v ≡ true → has_variable vs v ≡ false
 declared_apart held bound vs within apart v has = at (has_variable vs v) refl
   where
@@ -174,7 +174,7 @@ each_found P h [] one = tt
 each_found P h (x ∷ xs) one = found_one P (h x) (filter_map h xs) (one x) (each_found P h xs one)
 
 -- each branch leaves the same variables bound
-branch_same : (bound all vs : List ℕ) → has_all all vs ≡ true → has_all (bound ++ vs) all ≡ true
+pub branch_same : (bound all vs : List ℕ) → has_all all vs ≡ true → has_all (bound ++ vs) all ≡ true
     → AreSame (bound ++ vs) (bound ++ all)
 branch_same bound all vs part whole v =
     same_tests (has_variable (bound ++ vs) v) (has_variable (bound ++ all) v)

@@ -1,8 +1,12 @@
 pub mod BindingLemmas
 pub mod CallerLemmas
 pub mod EqualLemmas
+pub mod FilledLemmas
 pub mod FormLemmas
 pub mod MatchingLemmas
 pub mod MemberLemmas
 pub mod PatternLemmas
 pub mod RowLemmas
+pub mod TruthExactLemmas
+pub mod TruthLawLemmas
+pub mod TruthLemmas

@@ -1,4 +1,5 @@
 pub mod Builtins
 pub mod ExtensionLaws
 pub mod Extensions
+pub mod Truth
 pub mod Values

@@ -1,9 +1,11 @@
 //! What the words of extensions promise. Each law is the clause of a function with an empty body, and its statement
-//! stands in specs/ExtensionLaws.antt.
+//! stands in specs/ExtensionLaws.antt or specs/Truth.antt.
 //!
 //! Source: RIF-PRD, "Matching substitution" and "Condition satisfaction".
 ghost use Rattle.rif_builtins.specs.ExtensionLaws.{IsEvaluationBinding, IsMatchingExact, IsEqualityExact};
 ghost use Rattle.rif_builtins.specs.ExtensionLaws.{IsOneByOne, IsOfBoth, GoesByForm, IsSetOfExtensions};
+ghost use Rattle.rif_builtins.specs.Truth.{IsTrueByForm, IsTruthOfFree, IsExtensionTrue, IsSettledByTruth};
+ghost use Rattle.rif_builtins.specs.Truth.{IsOrderFree};
 
 /// Law: where a formula is ready for the variables of a row, and none is declared where it holds already, each
 /// extension of the row has values for exactly the row's variables and the formula's free ones, and keeps the row's
@@ -42,4 +44,33 @@ pub fn lists_are_taken_together()
 /// Law: the extensions of a row are in order without repeats, and are the rows that the formula gives.
 pub fn extensions_are_a_set()
     ensures { IsSetOfExtensions }
+{}
+
+/// Law: when a formula is true under a row, form by form. A conjunction is true where each of its members is, whatever
+/// their order.
+pub fn truth_goes_by_form()
+    ensures { IsTrueByForm }
+{}
+
+/// Law: whether a formula is true under a row goes by the values of its free variables alone.
+pub fn truth_goes_by_free_variables()
+    ensures { IsTruthOfFree }
+{}
+
+/// Law: where a formula is ready for the variables of a row, and none is declared where it holds already, the
+/// extensions of the row are exactly the rows that extend it by the formula's free variables and under which the
+/// formula is true.
+pub fn extensions_are_where_it_is_true()
+    ensures { IsExtensionTrue }
+{}
+
+/// Law: two such formulas that have the same free variables, and are true under the same rows, have the same
+/// extensions.
+pub fn truth_settles_extensions()
+    ensures { IsSettledByTruth }
+{}
+
+/// Law: two such conjunctions of the same members have the same extensions, whatever the order of the members.
+pub fn order_of_conjuncts_is_free()
+    ensures { IsOrderFree }
 {}

@@ -6,7 +6,7 @@
 //! | `valuing.rt` | values of terms | `specs/Values.antt` |
 //! | `builtins.rt` | the place of the built-ins | `specs/Builtins.antt` |
 //! | `pattern.rt`, `matching.rt` | `Pattern`, one pattern against one fact | `specs/Extensions.antt` |
-//! | `laws.rt` | what the words of extensions promise | `specs/ExtensionLaws.antt` |
+//! | `laws.rt` | what the words of extensions promise | `specs/ExtensionLaws.antt`, `specs/Truth.antt` |
 //!
 //! Begin at `fact_match`.
 #![tactic(auto)]
