@@ -10,3 +10,4 @@ pub mod RowLemmas
 pub mod TruthExactLemmas
 pub mod TruthLawLemmas
 pub mod TruthLemmas
+pub mod TruthStepLemmas

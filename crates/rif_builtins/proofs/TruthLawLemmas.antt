@@ -25,7 +25,8 @@ use Rattle.rif_builtins.specs.Truth.{IsExtensionTrue, IsSettledByTruth, IsOrderF
 use Rattle.rif_builtins.proofs.FormLemmas.{is_set_of_extensions}
 use Rattle.rif_builtins.proofs.MemberLemmas.{any_flat, any_to, any_from, row_in, is_row}
 use Rattle.rif_builtins.proofs.RowLemmas.{extends_same}
-use Rattle.rif_builtins.proofs.TruthExactLemmas.{iff_then, some_contains, exact}
+use Rattle.rif_builtins.proofs.TruthExactLemmas.{exact}
+use Rattle.rif_builtins.proofs.TruthStepLemmas.{iff_then, some_contains}
 use Rattle.rif_builtins.proofs.TruthLemmas.{depends, to_layer, from_layer}
 
 -- ---- form by form
