@@ -1,5 +1,5 @@
 -- What crates above may cite of this crate's proofs.
---     evaluation_binds ..       the laws
+--     evaluation_binds ..       the laws, those on truth at the end
 --     through_and ..            what a formula does to rows, form by form
 --     matched_has               which rows a pattern gives
 --     extends_itself ..         rows that extend others
@@ -13,3 +13,4 @@ pub use Rattle.rif_builtins.proofs.FormLemmas.{matched_has}
 pub use Rattle.rif_builtins.proofs.PatternLemmas.{matching_exact, match_fact_is, variable_value, kept_value}
 pub use Rattle.rif_builtins.proofs.RowLemmas.{value_has, value_bound, same_rows}
 pub use Rattle.rif_builtins.proofs.RowLemmas.{extends_itself, extends_same, extends_on, same_extension}
+pub use Rattle.rif_builtins.proofs.TruthLawLemmas.{extension_true, settled_by_truth, order_free}

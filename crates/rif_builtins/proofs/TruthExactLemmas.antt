@@ -335,9 +335,11 @@ module _ (base : FactBase) (vs : List ℕ) (e : Known base) (held bound : List �
     next_outside : (v : ℕ) → has_variable (bound ++ without vs us) v ≡ true → has_variable vs v ≡ false
     next_outside v has =
         at (has_variable bound v) (has_variable us v) (has_variable vs v) refl refl
-        (ap (λ b. has_variable bound v || b) (sym (has_without vs us v)) ∙ sym (has_append bound (without vs us) v) ∙ has)
+        (ap (λ b. has_variable bound v || b) (sym (has_without vs us v)) ∙ sym (has_append bound (without vs us) v)
+        ∙ has)
       where
-        at : (b u d : Bool) → has_variable bound v ≡ b → has_variable vs v ≡ d → (b || (u && not d)) ≡ true → d ≡ false
+        at : (b u d : Bool) → has_variable bound v ≡ b → has_variable vs v ≡ d → (b || (u && not d)) ≡ true
+            → d ≡ false
         at b u false is out some = refl
         at true u true is out some = absurd (cc (sym (undeclared v is) ∙ out))
         at false true true is out some = absurd (cc some)
@@ -346,7 +348,8 @@ module _ (base : FactBase) (vs : List ℕ) (e : Known base) (held bound : List �
     other_has : (v : ℕ) → has_variable us v ≡ true → is_there (value_at other v) ≡ true
     other_has v has = sym (has_is_there other v) ∙ has_all_elim (variables_in other) us whole v has
 
-    either_there : (o m : Option Const) (b u d : Bool) → is_there o ≡ (b || (u && not d)) → (u ≡ true → is_there m ≡ true)
+    either_there : (o m : Option Const) (b u d : Bool) → is_there o ≡ (b || (u && not d))
+        → (u ≡ true → is_there m ≡ true)
         → is_there (or_else o (cond u m None)) ≡ (b || u)
     either_there (Some c) m true u d is some = refl
     either_there (Some c) m false true d is some = refl
@@ -387,7 +390,8 @@ module _ (base : FactBase) (vs : List ℕ) (e : Known base) (held bound : List �
 
     mid_without : without_variables vs mid ≡ next
     mid_without =
-        sym (same_extension row next (without_variables vs mid) (bound ++ without vs us) to (taken_away mid mid_extends)
+        sym (same_extension row next (without_variables vs mid) (bound ++ without vs us) to
+        (taken_away mid mid_extends)
         (λ v c is. value_without vs mid v (next_outside v (sym (to.variables v) ∙ value_has next v c is))
         ∙ mid_keeps v c is))
 
@@ -442,7 +446,8 @@ module _ (base : FactBase) where
   inside_exact (EqualLayer a b) =
       subst (LayerClaimed (EqualLayer a b)) (sym (rolls-Equal a b))
       (λ held bound row next in_order same within scoped ready.
-      iff_then ((by_form base (row ∷ []) next).equality a b) (equal_exact base a b bound row next in_order same ready))
+      iff_then ((by_form base (row ∷ []) next).equality a b)
+      (equal_exact base a b bound row next in_order same ready))
   inside_exact (MemberLayer o c) =
       subst (LayerClaimed (MemberLayer o c)) (sym (rolls-Member o c))
       (λ held bound row next in_order same within scoped ready.

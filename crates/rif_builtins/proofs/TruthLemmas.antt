@@ -96,7 +96,8 @@ module _ (base : FactBase) where
       let us = variables_of o ++ variables_of_pair pair in
       let rest = slots_free o pairs in
       let same : us ≡ flat_map variables_of (o ∷ pair.0 ∷ pair.1 ∷ []) =
-      ap (λ (xs : List ℕ). variables_of o ++ (variables_of pair.0 ++ xs)) (sym (append-nil (variables_of pair.1))) in (
+      ap (λ (xs : List ℕ). variables_of o ++ (variables_of pair.0 ++ xs))
+      (sym (append-nil (variables_of pair.1))) in (
         fact_depends (SlotPattern o pair.0 pair.1) row other
             (subst (λ (xs : List ℕ). AgreeOn xs row other) same (agree_front us rest row other agree)) each.0,
         slots_depend o pairs row other (agree_back us rest row other agree) each.1,

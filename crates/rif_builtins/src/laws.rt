@@ -46,8 +46,8 @@ pub fn extensions_are_a_set()
     ensures { IsSetOfExtensions }
 {}
 
-/// Law: when a formula is true under a row, form by form. A conjunction is true where each of its members is, whatever
-/// their order.
+/// Law: when a formula is true under a row, form by form. A conjunction is true where each of its members is,
+/// whatever their order.
 pub fn truth_goes_by_form()
     ensures { IsTrueByForm }
 {}
