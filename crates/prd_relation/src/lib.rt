@@ -10,6 +10,7 @@
 //! | `candidate.rt`, `choosing.rt` | `choose_plain`: a pick is made here | `specs/Choice.antt` |
 //! | `steps.rt`, `session.rt` | a turn, step by step | `specs/Turns.antt` |
 //! | `replay.rt` | `replay_plain`, the run of some batches | `specs/Runs.antt` |
+//! | | rule systems, and the facts that turns leave | `specs/RuleSystem.antt`, `specs/FactsOfTurns.antt` |
 //! | `laws.rt` | laws of the definitions | `specs/Laws.antt` |
 //!
 //! Begin at `replay_plain`.

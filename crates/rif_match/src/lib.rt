@@ -16,5 +16,7 @@ mod gathering;
 mod laws;
 mod listing;
 
-pub use laws::{conflict_sets_are_sets, instances_are_rules_with_their_rows};
+pub use laws::{
+    conflict_sets_are_sets, instances_are_rules_with_their_rows, rows_bind_the_forall_variables,
+};
 pub use listing::{list_instances, matches};

@@ -1,4 +1,5 @@
 pub mod AnswerLemmas
+pub mod ClientLemmas
 pub mod CompletenessLemmas
 pub mod RunLemmas
 pub mod TextLemmas

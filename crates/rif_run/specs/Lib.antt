@@ -1,4 +1,5 @@
 pub mod Answer
+pub mod ClientLaws
 pub mod Commands
 pub mod Reading
 pub mod Runs

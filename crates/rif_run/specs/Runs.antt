@@ -1,5 +1,7 @@
 -- The text of the run of a job, and the refusal of a run.
+--     IsTextOf job bs text             the text is that of the run of these batches
 --     IsRunOf job text                 the text is that of the job's run
+--     IsSimpleJob, IsOtherJob          the input is a job that a run can evaluate, or can't yet
 --     IsRunText input text             the text is that of the run of the job that an input is
 --     IsRunRefused input refusal       the input has this refusal, or it is a job that can't be evaluated yet
 -- Source: the project's own (docs/FORMATS.md, "Jobs", "What `run` evaluates" and "The trace"; docs/PROFILE.md,
