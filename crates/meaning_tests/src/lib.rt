@@ -1,5 +1,5 @@
 //! Tests of the house of meaning. What they try is read from the text of jobs, and what comes out is shown as
-//! text, so that no value is built by hand. Runs that the program can do stand in examples/.
+//! text, so that no value is built by hand. Longer runs stand in examples/.
 //!
 //! | File | Has |
 //! |---|---|

@@ -2,13 +2,13 @@
 use rif_facts::Facts;
 use rif_refusals::Fault;
 use rif_script::{Job, read_job};
-use rif_tree::Doc;
 use rif_values::Change;
+use safe_rules::SafeDoc;
 use session_states::Item;
 use std::alloc::Global;
 
-/// The document of some rules.
-pub fn doc_of(alloc: Global, rules: &str) -> Result<Doc, Fault> {
+/// The document of some rules, which are safe.
+pub fn doc_of(alloc: Global, rules: &str) -> Result<SafeDoc, Fault> {
     let text = format!(in alloc; "Document(Group({rules}))")?;
     let Job { doc, .. } = read_job(alloc, text.as_bytes())?;
     Ok(doc)

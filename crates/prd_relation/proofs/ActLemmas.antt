@@ -124,7 +124,7 @@ item_explains system batch s before Halt act state is ended =
 item_explains system batch s before Dispose act state is ended =
     let same : DisposedAct ≡ act = cc ended in
     let disposed : s.state ≡ Disposed = state ∙ disposed_state before in
-    subst (λ (a : Act). IsReason system batch s s.state a) same (λ halted. cc (sym is ∙ halted), disposed, disposed)
+    subst (λ (a : Act). IsReason system batch s s.state a) same (inl is, disposed, disposed)
 
 -- an outcome has its act for a reason
 abbrev HasReason : RuleSystem → List Entry → Session → Outcome → Type 0
@@ -142,7 +142,7 @@ act_explains system batch s (UntilHalt zero) (Some i) none is chosen = (none, i,
 act_explains system batch s (UntilHalt (suc left)) (Some i) none is chosen = (none, left, inr (is, refl))
 act_explains system batch s (UntilHalt left) None none is chosen =
     (none, left, is, (nothing_chosen system (moments_of system s.history)).0 chosen, refl)
-act_explains system batch s Disposed choice none is chosen = (λ halted. cc (sym none ∙ halted), is, refl)
+act_explains system batch s Disposed choice none is chosen = (inr none, is, refl)
 
 ending_explains : (system : RuleSystem) (batch : List Entry) (s : Session) (before : State) (item : Item)
     (ending : Option Act)

@@ -11,3 +11,4 @@ pub mod RunHistoryLemmas
 pub mod RunLawLemmas
 pub mod TurnFactsLemmas
 pub mod TurnLemmas
+pub mod DisposeLemmas

@@ -90,7 +90,8 @@ pub record IsRefracted (moments : List Moment) (i : Instance) : Type 0 where
   pub picked : is_pick reached.pick i ≡ true
   pub there : AllByRecursion (λ moment. has_instance moment i ≡ true) (later ++ reached ∷ fired_at ∷ [])
 
--- each state is a set of facts, each pick was in the conflict set of the state before it, and the first state is empty
+-- each state is a set of facts, each pick was in the conflict set of the state before it, and the first state is
+-- empty
 -- and was reached by no firing
 abbrev pub IsHistory : RuleSystem → List Snapshot → Type 0
 IsHistory system [] = ⊥

@@ -16,7 +16,7 @@ use Rattle.session_states.specs.declared.turn.Act.TheVariants.{Idle as IdleAct, 
 use Rattle.session_states.specs.declared.turn.Act.TheVariants.{Fired, StoppedQuiet, StoppedLimit, Resting}
 use Rattle.session_states.specs.declared.turn.Effect.{Effect}
 use Rattle.session_states.specs.declared.turn.Effect.TheVariants.{None as NoEffect}
-use Rattle.session_states.specs.Batches.{AreLawfulBatches, is_disposing}
+use Rattle.session_states.specs.Batches.{AreLawfulBatches, IsLawful, is_disposing}
 use Rattle.prd_relation.specs.Choice.{allowed_instances, chosen_instance, highest_instances, is_lower, is_older}
 use Rattle.prd_relation.specs.Choice.{unrefracted_instances}
 use Rattle.prd_relation.specs.FactsOfTurns.{facts_of_turns}
@@ -80,7 +80,8 @@ DisposesEnd = (system : RuleSystem) (session : Session) (fired disposed : Bool)
     (batch : List Entry) (batches : List (List Entry))
     → AreLawfulFrom system session fired disposed (batch ∷ batches) → is_disposing batch ≡ true → batches ≡ []
 
--- two replays of the same batches are the same list of batches, so their turns are the same too
+-- some batches have one replay at most: two lists of batches that are each a replay of them are equal, and so are
+-- their turns
 abbrev pub IsReplayOne : Type 0
 IsReplayOne = (system : RuleSystem) (given all other : List (List Entry))
     → IsReplay system given all → IsReplay system given other → all ≡ other
@@ -170,7 +171,7 @@ IsReason system batch s after IdleAct = (ending_act batch ≡ None) × (s.state 
 IsReason system batch s after Halted =
     (ending_act batch ≡ Some Halted) × ((s.state ≡ Idle) ⊎ (s.state ≡ Disposed)) × (after ≡ s.state)
 IsReason system batch s after DisposedAct =
-    (ending_act batch ≢ Some Halted) × (s.state ≡ Disposed) × (after ≡ Disposed)
+    ((ending_act batch ≡ Some DisposedAct) ⊎ (ending_act batch ≡ None)) × (s.state ≡ Disposed) × (after ≡ Disposed)
 IsReason system batch s after Fired =
     (ending_act batch ≡ None) × (left : ℕ)
     × (((s.state ≡ Firing (suc left)) × (after ≡ Firing left))
@@ -183,6 +184,12 @@ IsReason system batch s after StoppedLimit =
 IsReason system batch s after Resting =
     (ending_act batch ≡ None) × (left : ℕ) × (s.state ≡ UntilHalt left) × AreAllRefracted system s
     × (after ≡ UntilHalt left)
+
+-- in a session that isn't disposed the act of a lawful batch says so exactly where the batch ends in a Dispose
+abbrev pub DisposesByDispose : Type 0
+DisposesByDispose = (system : RuleSystem) (session : Session) (batch : List Entry)
+    → IsLawful batch → session.state ≢ Disposed
+    → ((turn_of system session batch).act ≡ Some DisposedAct) ↔ (is_disposing batch ≡ true)
 
 -- a turn has its act for the act's reason: it stops or rests only where nothing is left to fire, or where the budget
 -- is spent

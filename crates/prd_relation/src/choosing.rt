@@ -10,8 +10,8 @@ ghost use Rattle.std.specs.List.{list_any};
 use crate::candidate::Candidate;
 use crate::mark::Mark;
 use crate::plain::Plain;
-use rif_tree::Doc;
 use rif_values::{Instance, OutOfMemory, nth};
+use safe_rules::SafeDoc;
 use std::alloc::Global;
 
 /// The instance to be picked next, or None where each instance of the newest conflict set is refracted.
@@ -22,7 +22,7 @@ use std::alloc::Global;
 /// (docs/PROFILE.md, "Tie break").
 pub fn choose_plain(
     alloc: Global,
-    doc: &Doc,
+    doc: &SafeDoc,
     history: &Plain,
 ) -> Result<Option<Instance>, OutOfMemory>
     ensures { IfOk result (λ chosen. chosen ≡ chosen_instance (system_of doc.now) history.now) }
@@ -38,7 +38,7 @@ pub fn choose_plain(
 
 fn unrefracted_candidates(
     alloc: Global,
-    doc: &Doc,
+    doc: &SafeDoc,
     history: &Plain,
 ) -> Result<Vec<Candidate>, OutOfMemory>
     ensures { IfOk result (λ all. all.items ≡ map (candidate_of (system_of doc.now) history.now)
@@ -56,7 +56,7 @@ fn unrefracted_candidates(
 // Puts the instance at the end, unless it is refracted.
 fn push_unrefracted(
     all: &mut Vec<Candidate>,
-    doc: &Doc,
+    doc: &SafeDoc,
     instance: &Instance,
     mark: Mark,
 ) -> Result<(), OutOfMemory>
@@ -78,10 +78,10 @@ fn push_unrefracted(
 /// rule.
 ///
 /// Source: RIF-PRD, "Groups".
-pub fn priority(doc: &Doc, number: u32) -> i32
+pub fn priority(doc: &SafeDoc, number: u32) -> i32
     ensures { result ≡ (system_of doc.now).priority number }
 {
-    match nth(doc.rules.as_slice(), number) {
+    match nth(doc.rules(), number) {
         Some(rule) => rule.priority,
         None => 0,
     }

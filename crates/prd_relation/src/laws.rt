@@ -8,6 +8,7 @@ ghost use Rattle.prd_relation.specs.Laws.{AreFiringsStates, ReachHistories, Tell
 ghost use Rattle.prd_relation.specs.Laws.{DisposesEnd, IsReplayOne, AreReplaysLawful};
 ghost use Rattle.prd_relation.specs.Laws.{AllowsTheBest, PickTheChosen};
 ghost use Rattle.prd_relation.specs.Laws.{FiresTheChosen, OthersKeepHistories, StopsWhereItMust};
+ghost use Rattle.prd_relation.specs.Laws.{DisposesByDispose};
 
 /// Law: the age is how many of the newest states in a row have the instance in their conflict sets.
 pub fn ages_count_states_in_a_row()
@@ -67,7 +68,8 @@ pub fn a_dispose_ends_the_run()
     ensures { DisposesEnd }
 {}
 
-/// Law: two replays of the same batches are the same list of batches, so their turns are the same too.
+/// Law: some batches have one replay at most: two lists of batches that are each a replay of them are equal, and so
+/// are their turns.
 pub fn one_replay()
     ensures { IsReplayOne }
 {}
@@ -103,4 +105,10 @@ pub fn other_turns_keep_the_history()
 /// each instance is refracted, or where the budget is spent.
 pub fn turns_stop_where_they_must()
     ensures { StopsWhereItMust }
+{}
+
+/// Law: in a session that isn't disposed the act of a lawful batch says that it is exactly where the batch ends in a
+/// Dispose.
+pub fn a_dispose_disposes()
+    ensures { DisposesByDispose }
 {}

@@ -10,8 +10,8 @@ use crate::mark::Mark;
 use crate::moment::Moment;
 use rif_facts::Facts;
 use rif_match::list_instances;
-use rif_tree::Doc;
 use rif_values::{Instance, OutOfMemory};
+use safe_rules::SafeDoc;
 use std::alloc::Global;
 use std::marker::Model;
 
@@ -46,7 +46,7 @@ impl Model for Plain {
 impl Plain {
     /// The history of the empty state of facts alone, from which each run starts. It lists that state's
     /// conflict set.
-    pub fn start(alloc: Global, doc: &Doc) -> Result<Plain, OutOfMemory>
+    pub fn start(alloc: Global, doc: &SafeDoc) -> Result<Plain, OutOfMemory>
         ensures { IfOk result (λ plain. plain ≡ moments_of (system_of doc.now) first_history) }
     {
         let conflict_set = list_instances(alloc, doc, &Facts::new(alloc))?;
@@ -73,7 +73,7 @@ impl Plain {
     pub fn push(
         &mut self,
         alloc: Global,
-        doc: &Doc,
+        doc: &SafeDoc,
         facts: &Facts,
         pick: Option<Instance>,
     ) -> Result<(), OutOfMemory>

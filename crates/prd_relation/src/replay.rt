@@ -8,8 +8,8 @@ ghost use Rattle.prd_relation.specs.Session.{Shows, budget_of};
 ghost use Rattle.prd_relation.specs.Replay.{IsReplayed, IsNextTurn};
 
 use crate::session::PlainSession;
-use rif_tree::Doc;
 use rif_values::{Listed, OutOfMemory};
+use safe_rules::SafeDoc;
 use session_states::{Act, Batch, Turn};
 use std::alloc::Global;
 use std::collections::VecDeque;
@@ -28,7 +28,11 @@ pub struct PlainRun {
 ///
 /// Source: RIF-PRD, "Operational semantics of a production rule system"; batches are our own
 /// (docs/PROFILE.md, "Turns").
-pub fn replay_plain(alloc: Global, doc: &Doc, batches: Vec<Batch>) -> Result<PlainRun, OutOfMemory>
+pub fn replay_plain(
+    alloc: Global,
+    doc: &SafeDoc,
+    batches: Vec<Batch>,
+) -> Result<PlainRun, OutOfMemory>
     ensures { IfOk result (λ run. (all : List (List Entry)) × IsReplay (system_of doc.now) batches.items all
         × (run.turns ≡ run_of (system_of doc.now) all) × (run.facts ≡ facts_at_end (system_of doc.now) all)
         × (run.facts ≡ fact_count_of run.turns)) }
@@ -48,7 +52,7 @@ pub fn replay_plain(alloc: Global, doc: &Doc, batches: Vec<Batch>) -> Result<Pla
 // Makes the turn of a batch, and those of empty batches while the last one fired.
 fn make_turns(
     alloc: Global,
-    doc: &Doc,
+    doc: &SafeDoc,
     batch: Batch,
     session: &mut PlainSession,
     turns: &mut Vec<Turn>,
@@ -67,7 +71,7 @@ fn make_turns(
 // Makes one turn, and answers whether it fired.
 fn make_turn(
     alloc: Global,
-    doc: &Doc,
+    doc: &SafeDoc,
     batch: Batch,
     session: &mut PlainSession,
     turns: &mut Vec<Turn>,

@@ -6,8 +6,8 @@ use crate::steps::{
     block_of_instance, changes_of, effect_of, ending, facts_after, made_after, state_after,
 };
 use rif_facts::Facts;
-use rif_tree::Doc;
 use rif_values::{Instance, OutOfMemory};
+use safe_rules::SafeDoc;
 use session_states::{Act, Batch, Effect, Entry, State, Turn};
 use std::alloc::Global;
 
@@ -43,7 +43,7 @@ impl PlainSession {
     ghost use Rattle.prd_relation.specs.Endings.{NeverFires};
 
     /// An idle session with no facts.
-    pub fn start(alloc: Global, doc: &Doc) -> Result<PlainSession, OutOfMemory>
+    pub fn start(alloc: Global, doc: &SafeDoc) -> Result<PlainSession, OutOfMemory>
         ensures { IfOk result (λ plain. Shows (system_of doc.now) plain first_session) }
     {
         Ok(PlainSession {
@@ -55,7 +55,7 @@ impl PlainSession {
     }
 
     /// Makes the turn of a batch. After want of memory the session is spent.
-    pub fn turn(&mut self, alloc: Global, doc: &Doc, batch: Batch) -> Result<Turn, OutOfMemory>
+    pub fn turn(&mut self, alloc: Global, doc: &SafeDoc, batch: Batch) -> Result<Turn, OutOfMemory>
         ensures turn { (s : Session) → Shows (system_of doc.now) self.old s
             → IfOk result (λ turn. turn ≡ turn_of (system_of doc.now) s batch) }
         ensures shows { (s : Session) → Shows (system_of doc.now) self.old s
@@ -74,7 +74,7 @@ impl PlainSession {
     }
 
     // Takes the items of a batch in order.
-    fn take(&mut self, alloc: Global, doc: &Doc, batch: &[Entry]) -> Result<(), OutOfMemory>
+    fn take(&mut self, alloc: Global, doc: &SafeDoc, batch: &[Entry]) -> Result<(), OutOfMemory>
         ensures shows { (s : Session) → Shows (system_of doc.now) self.old s
             → OnOk result (Shows (system_of doc.now) self.new (session_with s batch.now)) }
         ensures state { OnOk result (self.new.state ≡ state_with self.old.state batch.now) }
@@ -94,7 +94,7 @@ impl PlainSession {
     fn settle(
         &mut self,
         alloc: Global,
-        doc: &Doc,
+        doc: &SafeDoc,
         ending: Option<Act>,
     ) -> Result<Settled, OutOfMemory>
         requires { NeverFires ending }
@@ -111,7 +111,7 @@ impl PlainSession {
         }
     }
 
-    fn act(&mut self, alloc: Global, doc: &Doc) -> Result<Settled, OutOfMemory>
+    fn act(&mut self, alloc: Global, doc: &SafeDoc) -> Result<Settled, OutOfMemory>
         ensures settles { (s : Session) → Shows (system_of doc.now) self.old s
             → IfOk result (λ settled. Settles settled
             (outcome_in (system_of doc.now) s s.state
@@ -155,7 +155,7 @@ impl PlainSession {
     fn fire(
         &mut self,
         alloc: Global,
-        doc: &Doc,
+        doc: &SafeDoc,
         instance: Instance,
         next: State,
     ) -> Result<Settled, OutOfMemory>

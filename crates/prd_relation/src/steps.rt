@@ -9,8 +9,8 @@ ghost use Rattle.std.specs.Option.{option_to_list};
 
 use rif_actions::{Block, block};
 use rif_facts::Facts;
-use rif_tree::Doc;
 use rif_values::{Change, Instance, OutOfMemory, nth};
+use safe_rules::SafeDoc;
 use session_states::{Act, Effect, Entry, Item, State, after};
 use std::alloc::Global;
 
@@ -70,7 +70,7 @@ fn ending_of(item: &Item) -> Option<Act>
 /// The block of an instance.
 pub fn block_of_instance(
     alloc: Global,
-    doc: &Doc,
+    doc: &SafeDoc,
     instance: &Instance,
     facts: &Facts,
     made: u64,
@@ -79,7 +79,7 @@ pub fn block_of_instance(
     ensures block { IfOk result (λ block. block ≡ (system_of doc.now).block instance.now facts.now made) }
     ensures counted { IfOk result (HasMadeAtMost (2 ^ 63)) }
 {
-    match nth(doc.rules.as_slice(), instance.rule) {
+    match nth(doc.rules(), instance.rule) {
         Some(rule) => block(alloc, rule, &instance.row, facts, made),
         None => Ok(Block::Void),
     }

@@ -1,1 +1,2 @@
 pub mod LeastValueLemmas
+pub mod SlotScopeLemmas

@@ -25,7 +25,7 @@ use Rattle.rif_tree.specs.declared.rule.Action.{Action}
 use Rattle.rif_tree.specs.declared.rule.Action.TheVariants.{Assert, Retract, RetractSlot, RetractObject, Modify}
 use Rattle.rif_tree.specs.declared.rule.Decl.{Decl}
 use Rattle.rif_tree.specs.declared.rule.Decl.TheVariants.{Slot, New}
-use Rattle.rif_tree.specs.declared.rule.Rule.{Rule}
+use Rattle.safe_rules.specs.declared.safe_rule.SafeRule.{SafeRule}
 use Rattle.rif_values.specs.Facts.{same_const}
 use Rattle.rif_actions.specs.declared.changes.Block.{Block}
 use Rattle.rif_actions.specs.declared.changes.Block.TheVariants.{Void, Changes}
@@ -95,5 +95,5 @@ block_in actions (Some scope) = elim (changes_of scope.row actions) [
   | Some changes ↦ Changes changes scope.made
 ]
 
-abbrev pub block_of : Rule → Row → List Fact → ℕ → Block
+abbrev pub block_of : SafeRule → Row → List Fact → ℕ → Block
 block_of rule row w made = block_in rule.actions (after_decls w rule.decls (record { row = row; made = made }))

@@ -15,8 +15,9 @@ use crate::scope::Scope;
 use crate::uses::{FactUse, FrameUse};
 use rif_builtins::{value_in, values_in};
 use rif_facts::Facts;
-use rif_tree::{Action, Decl, Rule, Target, Term};
+use rif_tree::{Action, Decl, Target, Term};
 use rif_values::{Binding, Change, Const, Fact, Listed, OutOfMemory, Shared, are_same, pairs_with};
+use safe_rules::SafeRule;
 use std::alloc::Global;
 
 // How many objects can be made at most.
@@ -30,7 +31,7 @@ const GREATEST_MADE: u64 = 1 << 63;
 /// makes, the least value of a declared slot and void blocks are our own (docs/PROFILE.md, "Actions").
 pub fn block(
     alloc: Global,
-    rule: &Rule,
+    rule: &SafeRule,
     row: &Binding,
     facts: &Facts,
     made: u64,

@@ -4,7 +4,8 @@
 //! |---|---|---|
 //! | `changes.rt` | `Block`, the changes of a rule's block at a state, or that it is void | `specs/Blocks.antt` |
 //! | `blocks.rt` | `block`: a block is evaluated here | `specs/Blocks.antt` |
-//! | `scope.rt`, `uses.rt` | values of the block's variables, and what an action does | `specs/Blocks.antt`, `specs/Uses.antt` |
+//! | `scope.rt` | values of the block's variables | `specs/Blocks.antt` |
+//! | `uses.rt` | what an action does | `specs/Uses.antt` |
 //! | `laws.rt` | laws of the definitions | `specs/Laws.antt` |
 //!
 //! Begin at `block`.

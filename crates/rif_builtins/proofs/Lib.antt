@@ -1,12 +1,16 @@
 pub mod BindingLemmas
 pub mod CallerLemmas
+pub mod CountedLemmas
 pub mod EqualLemmas
 pub mod FilledLemmas
 pub mod FormLemmas
 pub mod MatchingLemmas
 pub mod MemberLemmas
+pub mod NumberLawLemmas
 pub mod PatternLemmas
 pub mod RowLemmas
+pub mod StringLawLemmas
+pub mod StringLemmas
 pub mod TruthExactLemmas
 pub mod TruthLawLemmas
 pub mod TruthLemmas

@@ -1,3 +1,4 @@
+pub mod BuiltinLaws
 pub mod Builtins
 pub mod ExtensionLaws
 pub mod Extensions

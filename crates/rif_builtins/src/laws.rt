@@ -1,11 +1,14 @@
-//! What the words of extensions promise. Each law is the clause of a function with an empty body, and its statement
-//! stands in specs/ExtensionLaws.antt or specs/Truth.antt.
+//! What the words of extensions and of built-ins promise. Each law is the clause of a function with an empty body,
+//! and its statement stands in specs/ExtensionLaws.antt, specs/Truth.antt or specs/BuiltinLaws.antt.
 //!
-//! Source: RIF-PRD, "Matching substitution" and "Condition satisfaction".
+//! Source: RIF-PRD, "Matching substitution" and "Condition satisfaction"; RIF-DTB, "List of RIF Built-in Predicates
+//! and Functions".
 ghost use Rattle.rif_builtins.specs.ExtensionLaws.{IsEvaluationBinding, IsMatchingExact, IsEqualityExact};
 ghost use Rattle.rif_builtins.specs.ExtensionLaws.{IsOneByOne, IsOfBoth, GoesByForm, IsSetOfExtensions};
 ghost use Rattle.rif_builtins.specs.Truth.{IsTrueByForm, IsTruthOfFree, IsExtensionTrue, IsSettledByTruth};
 ghost use Rattle.rif_builtins.specs.Truth.{IsOrderFree};
+ghost use Rattle.rif_builtins.specs.BuiltinLaws.{AreDivisionsExact, AreComparisonsOpposite, IsNotUndone};
+ghost use Rattle.rif_builtins.specs.BuiltinLaws.{ArePartsOfConcat, AreConcatsExact, AreByCharacters, AreAllCounted};
 
 /// Law: where a formula is ready for the variables of a row, and none is declared where it holds already, each
 /// extension of the row has values for exactly the row's variables and the formula's free ones, and keeps the row's
@@ -73,4 +76,44 @@ pub fn truth_settles_extensions()
 /// Law: two such conjunctions of the same members have the same extensions, whatever the order of the members.
 pub fn order_of_conjuncts_is_free()
     ensures { IsOrderFree }
+{}
+
+/// Law: by each divisor but zero there are a quotient and a remainder. The quotient times the divisor, and the
+/// remainder added, are the dividend; the remainder is nearer to zero than the divisor, and isn't on the other side
+/// of zero than the dividend. They are the values where they are in the range, which a remainder always is.
+pub fn divisions_are_exact()
+    ensures { AreDivisionsExact }
+{}
+
+/// Law: not-equal says the opposite of equal, greater-than-or-equal that of less-than, and less-than-or-equal that of
+/// greater-than. What is greater one way round is less the other.
+pub fn comparisons_are_opposite()
+    ensures { AreComparisonsOpposite }
+{}
+
+/// Law: `not` of what `not` gives is what it was given.
+pub fn not_is_undone_by_itself()
+    ensures { IsNotUndone }
+{}
+
+/// Law: a text starts with another where it is that one with some text behind it, ends with it where it has some text
+/// before it, and contains it where it has both.
+pub fn parts_are_of_a_concatenation()
+    ensures { ArePartsOfConcat }
+{}
+
+/// Law: a concatenation is its strings one behind the other. That of two starts with the first and ends with the
+/// second, and its length is the sum of theirs.
+pub fn concatenations_are_exact()
+    ensures { AreConcatsExact }
+{}
+
+/// Law: a text starts with another, ends with it or contains it by its bytes just where it does by its characters.
+pub fn bytes_say_what_characters_say()
+    ensures { AreByCharacters }
+{}
+
+/// Law: a built-in has a value only of as many arguments as it takes.
+pub fn values_are_of_as_many_arguments()
+    ensures { AreAllCounted }
 {}

@@ -40,7 +40,7 @@ pub fn value_in(
         Term::Var(var) => bound_value(row, *var),
         Term::Call(func, arguments) => {
             match values_in(alloc, row, arguments.as_slice())? {
-                Some(values) => Ok(apply_func(*func, values.as_slice())),
+                Some(values) => apply_func(alloc, *func, values.as_slice()),
                 None => Ok(None),
             }
         }

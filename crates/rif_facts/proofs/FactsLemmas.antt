@@ -27,7 +27,8 @@ facts_with given old new fact same facts is =
 change_kept : (facts : List Fact) (change : Change) → IsFacts facts → IsFacts (after_change facts change)
 change_kept facts (Assert fact) set = set_insert total_facts exact_facts facts fact set
 change_kept facts (Retract fact) set = set_filter total_facts exact_facts (λ f. not (same_fact fact f)) facts set
-change_kept facts (RetractSlot o s) set = set_filter total_facts exact_facts (λ f. not (is_slot_value o s f)) facts set
+change_kept facts (RetractSlot o s) set =
+    set_filter total_facts exact_facts (λ f. not (is_slot_value o s f)) facts set
 change_kept facts (RetractObject o) set = set_filter total_facts exact_facts (λ f. not (is_about o f)) facts set
 change_kept facts (Modify o s v) set =
     set_insert total_facts exact_facts (without (is_slot_value o s) facts) (Frame o s v)
@@ -36,7 +37,8 @@ change_kept facts (Modify o s v) set =
 -- and so do some changes in order
 pub facts_kept : (facts : List Fact) (changes : List Change) → IsFacts facts → IsFacts (facts_after facts changes)
 facts_kept facts [] set = set
-facts_kept facts (change ∷ changes) set = facts_kept (after_change facts change) changes (change_kept facts change set)
+facts_kept facts (change ∷ changes) set =
+    facts_kept (after_change facts change) changes (change_kept facts change set)
 
 -- a place that was searched for is within the list
 pub err_within : (r : Result ℕ ℕ) (n : ℕ) → IsSearchInRange r n → IfErr r (λ at. at ≤ n)

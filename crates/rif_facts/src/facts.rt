@@ -1,6 +1,8 @@
-ghost use Rattle.std.specs.Prelude.{◌≡◌, ◌≤◌, ◌++◌, ◌∷◌, [], true, false, length, not, if◌then◌else◌, IfOk, IfErr, OnOk};
+ghost use Rattle.std.specs.Prelude.{◌≡◌, ◌≤◌, ◌++◌, ◌∷◌, [], true, false, length, not, if◌then◌else◌};
+ghost use Rattle.std.specs.Prelude.{IfOk, IfErr, OnOk};
 ghost use Rattle.std.specs.List.{insert};
-ghost use Rattle.rif_values.specs.Facts.{IsFacts, has_fact, same_fact, is_slot_value, is_about, with_fact, without, after_change, facts_after, net_change};
+ghost use Rattle.rif_values.specs.Facts.{IsFacts, has_fact, same_fact, is_slot_value, is_about, with_fact};
+ghost use Rattle.rif_values.specs.Facts.{without, after_change, facts_after, net_change};
 ghost use Rattle.rif_values.specs.Order.{fact_cmp};
 ghost use Rattle.rif_values.specs.Sets.{beyond};
 

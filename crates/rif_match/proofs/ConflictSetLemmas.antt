@@ -10,14 +10,13 @@ use Rattle.rif_values.proofs.CallerLemmas.{total_bindings, exact_bindings}
 use Rattle.rif_sets.proofs.CallerLemmas.{set_ordered}
 use Rattle.rif_values.specs.declared.fact.Fact.{Fact}
 use Rattle.rif_values.specs.declared.instance.Instance.{Instance}
-use Rattle.rif_tree.specs.declared.rule.Doc.{Doc}
-use Rattle.rif_tree.specs.declared.rule.Rule.{Rule}
+use Rattle.safe_rules.specs.declared.safe_rule.SafeRule.{SafeRule}
 use Rattle.rif_values.specs.InstanceOrder.{instance_cmp}
 use Rattle.rif_values.specs.Order.{binding_cmp}
 use Rattle.rif_values.specs.Sets.{IsSet}
 use Rattle.rif_values.specs.Bindings.{Row}
 use Rattle.rif_builtins.specs.Extensions.{FactBase, base_of, through}
-use Rattle.rif_match.specs.ConflictSet.{condition_of, rows_of, instance_of, instances_from, conflict_set}
+use Rattle.rif_match.specs.ConflictSet.{rows_of, instance_of, instances_from, conflict_set}
 
 -- what holds of each of two lists' elements holds of each of both
 all_append : {X : Type 0} (P : X → Type 0) (xs ys : List X) → AllByRecursion P xs → AllByRecursion P ys
@@ -54,7 +53,7 @@ rule_is n m [] up = tt
 rule_is n m (row ∷ rows) up = (up, rule_is n m rows up)
 
 -- the instances of rules from a number on have at least that number
-from_number : (n m : ℕ) (rules : List Rule) (base : FactBase) → n ≤ m
+from_number : (n m : ℕ) (rules : List SafeRule) (base : FactBase) → n ≤ m
     → AllByRecursion (λ (z : Instance). n ≤ z.rule) (instances_from m rules base)
 from_number n m [] base up = tt
 from_number n m (rule ∷ rules) base up =
@@ -76,10 +75,10 @@ rows_below_later : (n : ℕ) (rows : List Row) (zs : List Instance)
 rows_below_later n [] zs later = tt
 rows_below_later n (row ∷ rows) zs later = (below_later n row zs later, rows_below_later n rows zs later)
 
-set_of_rule : (base : FactBase) (rule : Rule) → IsSet binding_cmp (rows_of base rule)
-set_of_rule base rule = set_ordered total_bindings exact_bindings (through base (condition_of rule) ([] ∷ []))
+set_of_rule : (base : FactBase) (rule : SafeRule) → IsSet binding_cmp (rows_of base rule)
+set_of_rule base rule = set_ordered total_bindings exact_bindings (through base rule.condition ([] ∷ []))
 
-set_from : (n : ℕ) (rules : List Rule) (base : FactBase) → IsSet instance_cmp (instances_from n rules base)
+set_from : (n : ℕ) (rules : List SafeRule) (base : FactBase) → IsSet instance_cmp (instances_from n rules base)
 unfolding IsStrictlySortedBy
 set_from n [] base = tt
 set_from n (rule ∷ rules) base =
@@ -89,5 +88,5 @@ set_from n (rule ∷ rules) base =
     (from_number (suc n) (suc n) rules base (omega arith)))
 
 -- a conflict set is in order without repeats
-pub conflict_set_is_set : (doc : Doc) (w : List Fact) → IsSet instance_cmp (conflict_set doc w)
-conflict_set_is_set doc w = set_from 1 doc.rules (base_of w)
+pub conflict_set_is_set : (rules : List SafeRule) (w : List Fact) → IsSet instance_cmp (conflict_set rules w)
+conflict_set_is_set rules w = set_from 1 rules (base_of w)

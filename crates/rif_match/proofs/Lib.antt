@@ -3,3 +3,4 @@ pub mod CallerLemmas
 pub mod ConflictSetLemmas
 pub mod ListingLemmas
 pub mod MembershipLemmas
+pub mod RisingLemmas

@@ -5,7 +5,7 @@ use Rattle.std.specs.Ordering.{eq_by_cmp, is_eq, nat_cmp, ordering_then}
 use Rattle.rif_values.proofs.CallerLemmas.{total_bindings, exact_bindings, total_instances, exact_instances}
 use Rattle.rif_sets.proofs.CallerLemmas.{equal_is, equal_itself, has_append}
 use Rattle.rif_values.specs.declared.instance.Instance.{Instance}
-use Rattle.rif_tree.specs.declared.rule.Rule.{Rule}
+use Rattle.safe_rules.specs.declared.safe_rule.SafeRule.{SafeRule}
 use Rattle.rif_values.specs.InstanceOrder.{instance_cmp}
 use Rattle.rif_values.specs.Order.{binding_cmp}
 use Rattle.rif_values.specs.Numbers.{nth_of}
@@ -57,11 +57,11 @@ row_here n (row ∷ rows) i same there =
 -- ---- of rules from a number on
 
 -- the rule that an instance is of, some places on
-abbrev IsOf : ℕ → List Rule → FactBase → Instance → Type 0
-IsOf n rules base i = (place : ℕ) × (rule : Rule) × (i.rule ≡ n + place) × (slice_get rules place ≡ Some rule)
+abbrev IsOf : ℕ → List SafeRule → FactBase → Instance → Type 0
+IsOf n rules base i = (place : ℕ) × (rule : SafeRule) × (i.rule ≡ n + place) × (slice_get rules place ≡ Some rule)
     × (has binding_cmp (rows_of base rule) i.row ≡ true)
 
-from_there : (n : ℕ) (rules : List Rule) (base : FactBase) (i : Instance)
+from_there : (n : ℕ) (rules : List SafeRule) (base : FactBase) (i : Instance)
     → has instance_cmp (instances_from n rules base) i ≡ true → IsOf n rules base i
 from_there n [] base i there = absurd (cc there)
 from_there n (rule ∷ rules) base i there =
@@ -75,7 +75,7 @@ from_there n (rule ∷ rules) base i there =
           (suc rest.0, rest.1, (let is = rest.2 in omega (arith, is)), rest.3, rest.4)
     ]
 
-from_here : (n : ℕ) (rules : List Rule) (base : FactBase) (i : Instance) (place : ℕ) (rule : Rule)
+from_here : (n : ℕ) (rules : List SafeRule) (base : FactBase) (i : Instance) (place : ℕ) (rule : SafeRule)
     → i.rule ≡ n + place → slice_get rules place ≡ Some rule → has binding_cmp (rows_of base rule) i.row ≡ true
     → has instance_cmp (instances_from n rules base) i ≡ true
 from_here n [] base i place rule is at there = absurd (cc at)
@@ -83,7 +83,7 @@ from_here n (first ∷ rules) base i zero rule is at there =
     let same : first ≡ rule = cc at in
     let number : i.rule ≡ n = omega (arith, is) in
     let here = row_here n (rows_of base first) i number
-    (ap (λ (r : Rule). has binding_cmp (rows_of base r) i.row) same ∙ there) in
+    (ap (λ (r : SafeRule). has binding_cmp (rows_of base r) i.row) same ∙ there) in
     has_append total_instances exact_instances (map (instance_of n) (rows_of base first))
     (instances_from (suc n) rules base) i
     ∙ ap (λ b. b || has instance_cmp (instances_from (suc n) rules base) i) here
@@ -95,7 +95,7 @@ from_here n (first ∷ rules) base i (suc place) rule is at there =
     grind (arith, later, both)
 
 -- a rule of a number counted from 1
-at_number : (rules : List Rule) (base : FactBase) (i : Instance) (n : ℕ) (rule : Rule) → i.rule ≡ n
+at_number : (rules : List SafeRule) (base : FactBase) (i : Instance) (n : ℕ) (rule : SafeRule) → i.rule ≡ n
     → nth_of rules n ≡ Some rule → has binding_cmp (rows_of base rule) i.row ≡ true
     → has instance_cmp (instances_from 1 rules base) i ≡ true
 at_number rules base i zero rule is at there = absurd (cc at)
@@ -103,10 +103,10 @@ at_number rules base i (suc place) rule is at there =
     from_here 1 rules base i place rule (omega (arith, is)) at there
 
 pub instances_of_rows : HaveInstancesOfTheirRows
-instances_of_rows doc w i = (
+instances_of_rows rules w i = (
   λ there.
-      let found = from_there 1 doc.rules (base_of w) i there in
+      let found = from_there 1 rules (base_of w) i there in
       let number : i.rule ≡ suc found.0 = let is = found.2 in omega (arith, is) in
-      (found.1, ap (nth_of doc.rules) number ∙ found.3, found.4),
-  λ found. at_number doc.rules (base_of w) i i.rule found.0 refl found.1 found.2,
+      (found.1, ap (nth_of rules) number ∙ found.3, found.4),
+  λ found. at_number rules (base_of w) i i.rule found.0 refl found.1 found.2,
 )

@@ -56,9 +56,9 @@ pub fn rows_through(
     }
 }
 
-/// The rows taken through some formulas in turn.
+// The rows taken through some formulas in turn.
 #[cycle(through)]
-pub fn rows_through_each(
+fn rows_through_each(
     alloc: Global,
     facts: &[Fact],
     members: &[Formula],

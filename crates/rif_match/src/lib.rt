@@ -17,6 +17,7 @@ mod laws;
 mod listing;
 
 pub use laws::{
-    conflict_sets_are_sets, instances_are_rules_with_their_rows, rows_bind_the_forall_variables,
+    conflict_sets_are_sets, instances_are_rules_with_their_rows, instances_go_by_truth,
+    rows_bind_the_forall_variables,
 };
 pub use listing::{list_instances, matches};

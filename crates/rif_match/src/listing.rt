@@ -1,15 +1,14 @@
 //! What satisfies a formula, and every rule's instances. This is the plain way: each is listed from scratch.
-ghost use Rattle.std.specs.Prelude.{◌≡◌, ◌+◌, ◌++◌, map, IfOk, OnOk};
-ghost use Rattle.std.specs.List.{flat_map};
-ghost use Rattle.std.specs.Option.{option_to_list};
+ghost use Rattle.std.specs.Prelude.{◌≡◌, ◌<◌, ◌+◌, ◌++◌, map, IfOk, OnOk};
 ghost use Rattle.rif_match.specs.ConflictSet.{conflict_set, instance_of, rows_of};
-ghost use Rattle.rif_builtins.specs.Extensions.{base_of, extensions_of, in_turn, through};
+ghost use Rattle.rif_builtins.specs.Extensions.{base_of, extensions_of};
 
-use crate::extending::{rows_through, rows_through_each};
+use crate::extending::rows_through;
 use rif_facts::Facts;
 use rif_sets::sorted_set;
-use rif_tree::{Doc, Formula, Level, Rule};
-use rif_values::{Binding, Fact, Instance, Listed, OutOfMemory};
+use rif_tree::Formula;
+use rif_values::{Binding, Instance, Listed, OutOfMemory};
+use safe_rules::{SafeDoc, SafeRule};
 use std::alloc::Global;
 
 /// The rows that extend the row and satisfy the formula, in order, each once.
@@ -35,84 +34,43 @@ pub fn matches(
 /// The conflict set of a state of facts: the instances of all rules, in order, each once.
 ///
 /// It lists them from scratch, whatever was listed before: for each rule a pattern of the condition is
-/// tried on each fact for each row that comes to it. A document of more rules than a `u32` counts is out
-/// of memory.
+/// tried on each fact for each row that comes to it.
 ///
 /// Source: RIF-PRD, "Operational semantics of a production rule system" and "Definitions and notational
 /// conventions".
 pub fn list_instances(
     alloc: Global,
-    doc: &Doc,
+    doc: &SafeDoc,
     facts: &Facts,
 ) -> Result<Listed<Instance>, OutOfMemory>
     ensures { IfOk result (λ instances. instances ≡ conflict_set doc.now facts.now) }
 {
     let mut all = Vec::new(alloc);
-    for (place, rule) in doc.rules.as_slice().iter().enumerate() {
-        let rows = rows_satisfying(alloc, facts.as_slice(), rule)?;
-        push_instances(&mut all, number_at(place)?, rows.as_slice())?;
+    for (place, rule) in doc.rules().iter().enumerate() {
+        let rows = rows_satisfying(alloc, facts, rule)?;
+        push_instances(&mut all, number_at(place), rows.as_slice())?;
     }
     Ok(Listed::from_vec(all))
 }
 
-// The number of the rule at a place.
-fn number_at(place: usize) -> Result<u32, OutOfMemory>
-    ensures { IfOk result (λ number. number ≡ place + 1) }
+// The number of the rule at a place of a document.
+fn number_at(place: usize) -> u32
+    requires { place < 1024 }
+    ensures { result ≡ place + 1 }
 {
-    match u32::try_from(place) {
-        Ok(before) => before.checked_add(1).ok_or(OutOfMemory),
-        Err(_) => Err(OutOfMemory),
-    }
+    place as u32 + 1
 }
 
-// The values of the rule's variables that satisfy its condition.
+// The values of the rule's `Forall` variables that satisfy its condition.
 fn rows_satisfying(
     alloc: Global,
-    facts: &[Fact],
-    rule: &Rule,
+    facts: &Facts,
+    rule: &SafeRule,
 ) -> Result<Listed<Binding>, OutOfMemory>
     ensures { IfOk result (λ rows. rows ≡ rows_of (base_of facts.now) rule.now) }
 {
-    let mut one = Vec::new(alloc);
-    one.push(Binding::new(alloc)?)?;
-    let bound = rows_through_levels(alloc, facts, rule.levels.as_slice(), one)?;
-    let found = rows_through_condition(alloc, facts, &rule.condition, bound)?;
-    sorted_set(alloc, found)
-}
-
-// The rows taken through the `such that` formulas of each level in turn.
-fn rows_through_levels(
-    alloc: Global,
-    facts: &[Fact],
-    levels: &[Level],
-    rows: Vec<Binding>,
-) -> Result<Vec<Binding>, OutOfMemory>
-    ensures { IfOk result
-        (λ found. found.items ≡ in_turn
-        (map (through (base_of facts.now)) (flat_map (λ level. level.such_that) levels.now)) rows.items) }
-{
-    let mut found = rows;
-    for level in levels {
-        found = rows_through_each(alloc, facts, level.such_that.as_slice(), found)?;
-    }
-    Ok(found)
-}
-
-// The rows taken through the `If` formula, where there is one.
-fn rows_through_condition(
-    alloc: Global,
-    facts: &[Fact],
-    condition: &Option<Formula>,
-    rows: Vec<Binding>,
-) -> Result<Vec<Binding>, OutOfMemory>
-    ensures { IfOk result
-        (λ found. found.items
-        ≡ in_turn (map (through (base_of facts.now)) (option_to_list condition.now)) rows.items) }
-{
-    match condition {
-        Some(formula) => rows_through(alloc, facts, formula, rows),
-        None => Ok(rows),
-    }
+    let unbound = Binding::new(alloc)?;
+    matches(alloc, facts, &unbound, &rule.condition)
 }
 
 // Puts the instances of one rule at the end.

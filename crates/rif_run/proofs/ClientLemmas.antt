@@ -1,5 +1,6 @@
 -- The batches of a replay have the entries of the given batches, in their order.
-use Rattle.std.proofs.Common.{◌≡◌, ◌≢◌, ◌∙◌, ◌<◌, ℕ, Bool, true, false, List, [], ◌∷◌, ◌++◌, length, refl, ap, sym, subst}
+use Rattle.std.proofs.Common.{◌≡◌, ◌∙◌, ◌<◌, ℕ, Bool, true, false, List, [], ◌∷◌, ◌++◌, length, refl, ap}
+use Rattle.std.proofs.Common.{sym, subst}
 use Rattle.std.specs.List.{All}
 use Rattle.std.proofs.lemmas.List.Elements.{All-head, All-tail}
 use Rattle.session_states.specs.declared.item.Entry.{Entry}
@@ -31,12 +32,13 @@ joined_replay system session false (next ∷ given) (batch ∷ all) more is =
     (joined_replay system (session_after system session batch) (fires system session batch) given all more is.1)
 
 -- the entries of a job's items are of its clients
-known_after : (job : Job) (before items : List (ℕ × Item)) → All (λ (sent : ℕ × Item). sent.0 < length job.names) items
-    → AreKnown job (entries_after before items)
+known_after : (job : Job) (before items : List (ℕ × Item)) →
+    All (λ (sent : ℕ × Item). sent.0 < length job.names) items → AreKnown job (entries_after before items)
 known_after job before [] are = tt
 known_after job before (sent ∷ items) are = (
   All-head (λ (one : ℕ × Item). one.0 < length job.names) sent items are,
-  known_after job (before ++ sent ∷ []) items (All-tail (λ (one : ℕ × Item). one.0 < length job.names) sent items are),
+  known_after job (before ++ sent ∷ []) items
+      (All-tail (λ (one : ℕ × Item). one.0 < length job.names) sent items are),
 )
 
 with_nothing : {X : Type 0} (xs : List X) → xs ++ [] ≡ xs

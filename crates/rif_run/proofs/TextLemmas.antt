@@ -10,7 +10,8 @@ use Rattle.rif_script.specs.declared.job.Job.{Job}
 use Rattle.rif_script.specs.JobClients.{JobsHaveClients}
 use Rattle.rif_script.specs.Trace.{run_text}
 use Rattle.rif_script.specs.TraceLaws.{AreTurns, SameTextSameRun, turns_behind}
-use Rattle.rif_run.specs.TextLaws.{TextFixesRun, text_of_run}
+use Rattle.rif_run.specs.Runs.{text_of_run}
+use Rattle.rif_run.specs.TextLaws.{TextFixesRun}
 
 -- the turn of a batch behind others
 abbrev turn_behind : RuleSystem → List (List Entry) → List Entry → Turn

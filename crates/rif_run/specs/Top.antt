@@ -1,8 +1,8 @@
 -- What the program's top call says of its words, its source and its sink.
 --     WritesAnswer            an input was read of the source, and its answer was written whole
 --     WritesFrontOfAnswer     the same, and a front of its answer was written
---     AreTaken words left     the words are a command, and what is left of the source is an input that it is for
---     AreRefused words left   the words are a command, and what is left of the source is refused to it
+--     AreTaken words left     the words are a command, and what is left of the source is a job
+--     AreRefused words left   the words are a command, and what is left of the source has a refusal
 -- Source: the project's own (docs/FORMATS.md, "Words" and "Statuses").
 use Rattle.std.specs.Prelude.{◌≡◌, ℕ, ◌+◌, List, Some}
 use Rattle.std.specs.Io.KnownBytes.{Appends}
@@ -10,14 +10,12 @@ use Rattle.std.specs.declared.option.Option.{Option}
 use Rattle.rif_refusals.specs.Limits.{most_input_bytes}
 use Rattle.rif_refusals.specs.declared.refusal.Refusal.{Refusal}
 use Rattle.rif_script.specs.declared.job.Job.{Job}
-use Rattle.rif_script.specs.Jobs.{IsJob}
+use Rattle.rif_script.specs.Jobs.{IsJob, IsRefused}
 use Rattle.rif_run.specs.declared.command.Command.{Command}
-use Rattle.rif_run.specs.declared.command.Command.TheVariants.{Check, Run}
 use Rattle.rif_run.specs.declared.status.Status.{Status}
-use Rattle.rif_run.specs.Answer.{IsAnswerTo, IsRefusedTo}
+use Rattle.rif_run.specs.Answer.{IsAnswerTo}
 use Rattle.rif_run.specs.Commands.{IsCommand}
 use Rattle.rif_run.specs.Reading.{ReadsFront}
-use Rattle.rif_run.specs.Runs.{IsSimpleJob}
 use Rattle.rif_run.specs.Writing.{WritesFront}
 
 -- the most bytes that are read of an input: one more than an input may have
@@ -45,24 +43,20 @@ abbrev pub WritesFrontOfAnswer : List (List ℕ) → Option (List ℕ) → Optio
 WritesFrontOfAnswer words left left' written written' =
     (status : Status) × (text : List ℕ) × ReadsAnswer words left left' status text × WritesFront written written' text
 
--- a command can do what it is for with this input
-abbrev pub IsTaken : Command → List ℕ → Type 0
-IsTaken Check input = (job : Job) × IsJob input job
-IsTaken Run input = (job : Job) × IsSimpleJob input job
-
--- the words are a command, and the source tells that an input is left with which it can do what it is for
+-- the words are a command, and the source tells that an input is left which is a job
 pub record AreTaken (words : List (List ℕ)) (left : Option (List ℕ)) : Type 0 where
   pub command : Command
   pub told : IsCommand words command
   pub input : List ℕ
   pub left_is : left ≡ Some input
-  pub taken : IsTaken command input
+  pub job : Job
+  pub taken : IsJob input job
 
--- the words are a command, and the source tells that an input is left which is refused to it
+-- the words are a command, and the source tells that an input is left which has a refusal
 pub record AreRefused (words : List (List ℕ)) (left : Option (List ℕ)) : Type 0 where
   pub command : Command
   pub told : IsCommand words command
   pub input : List ℕ
   pub left_is : left ≡ Some input
   pub refusal : Refusal
-  pub refused : IsRefusedTo command input refusal
+  pub refused : IsRefused input refusal

@@ -1,6 +1,7 @@
 ghost use Rattle.std.specs.Prelude.{◌≡◌, IfErr, IfOk};
+ghost use Rattle.rif_script.specs.Jobs.{RefusesJob};
 ghost use Rattle.rif_script.specs.RefusalLine.{refusal_line};
-ghost use Rattle.rif_run.specs.Answer.{IsAnswerTo, IsTextFor, RefusesTo};
+ghost use Rattle.rif_run.specs.Answer.{IsAnswerTo, IsTextFor};
 
 use crate::check::check_text;
 use crate::command::Command;
@@ -38,7 +39,7 @@ pub fn answer_to(alloc: Global, command: Command, input: &[u8]) -> Result<Answer
 
 fn text_for(alloc: Global, command: Command, input: &[u8]) -> Result<Vec<u8>, Fault>
     ensures ok { IfOk result (λ text. IsTextFor command input.now text.items) }
-    ensures refused { IfErr result (RefusesTo command input.now) }
+    ensures refused { IfErr result (RefusesJob input.now) }
 {
     match command {
         Command::Check => check_text(alloc, input),

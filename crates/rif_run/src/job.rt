@@ -1,25 +1,22 @@
 ghost use Rattle.std.specs.Prelude.{IfErr, IfOk};
-ghost use Rattle.rif_run.specs.Runs.{IsRunOf, IsRunText, RefusesRun};
+ghost use Rattle.rif_script.specs.Jobs.{RefusesJob};
+ghost use Rattle.rif_run.specs.Runs.{IsRunOf, IsRunText};
 
 use prd_relation::laws::replays_are_lawful;
 use prd_relation::replay_plain;
-use rif_refusals::{Fault, Refusal};
+use rif_refusals::Fault;
 use rif_script::laws::cut_is_lawful;
-use rif_script::{Job, batches_of, read_job, simple_job, write_run};
+use rif_script::{Job, batches_of, read_job, write_run};
 use rif_values::OutOfMemory;
 use std::alloc::Global;
 
-/// The text of the run of the job that the bytes are, or why there is none: the bytes are refused, or the
-/// job has more than a run can evaluate yet, which is refused as left out at line 1, column 1. The run is
-/// the plain program's, whose cost grows with the state.
+/// The text of the run of the job that the bytes are, or why they are none. The run is the plain program's, whose
+/// cost grows with the state.
 pub fn run_text(alloc: Global, bytes: &[u8]) -> Result<Vec<u8>, Fault>
     ensures ok { IfOk result (λ text. IsRunText bytes.now text.items) }
-    ensures refused { IfErr result (RefusesRun bytes.now) }
+    ensures refused { IfErr result (RefusesJob bytes.now) }
 {
     let job = read_job(alloc, bytes)?;
-    if !simple_job(&job) {
-        return Err(Fault::Refused(Refusal::LeftOut { line: 1, col: 1 }));
-    }
     Ok(text_of_job(alloc, &job)?)
 }
 

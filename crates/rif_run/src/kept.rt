@@ -1,4 +1,5 @@
-ghost use Rattle.std.specs.Prelude.{◌≡◌, ◌-◌, ◌<◌, ◌^◌, ◌++◌, [], IfOk, IfSome, IsTrue, OnErr, take, true};
+ghost use Rattle.std.specs.Prelude.{◌≡◌, ◌-◌, ◌<◌, ◌^◌, ◌++◌, [], IfOk, IsTrue, MatchOption, OnErr, false, take};
+ghost use Rattle.std.specs.Prelude.{true};
 ghost use Rattle.std.specs.Io.{ReadsAtMost};
 ghost use Rattle.std.specs.Io.KnownBytes.{ReadConsumes};
 ghost use Rattle.rif_script.specs.Faults.{CountsFaults};
@@ -31,9 +32,10 @@ impl<S: Source> Kept<S> {
         }
     }
 
-    /// All that was taken, and None where no memory was found for some of it.
+    /// All that was taken, and None exactly where some of it is lost, since no memory was found for it.
     pub fn bytes(&self) -> Option<&[u8]>
-        ensures { IfSome result (λ bytes. IsTrue self.now.is_whole × (bytes.now ≡ self.now.bytes.items)) }
+        ensures { MatchOption result (self.now.is_whole ≡ false)
+            (λ bytes. IsTrue self.now.is_whole × (bytes.now ≡ self.now.bytes.items)) }
     {
         if self.is_whole {
             Some(self.bytes.as_slice())

@@ -13,7 +13,9 @@
 //! | `job.rt` | the text of a run from the bytes of a job | `specs/Runs.antt` |
 //! | `check.rt` | the canonical text of a document from the bytes of a job | `specs/Answer.antt` |
 //! | `kept.rt` | `Kept`, a source that keeps what was taken of it | |
-//! | `laws.rt` | that an input and a command have one answer, that a text fixes its run, and that a run keeps its clients' items | `specs/Answer.antt`, `specs/TextLaws.antt`, `specs/ClientLaws.antt` |
+//! | `laws.rt` | that an input and a command have one answer | `specs/Answer.antt` |
+//! | | that a text fixes its run | `specs/TextLaws.antt` |
+//! | | that a run keeps its clients' items | `specs/ClientLaws.antt` |
 //! | `note.rt` | what is said of a refusal in words | |
 //!
 //! Begin at `top::rif_run`.

@@ -36,19 +36,21 @@ pub fn rif_run<S: Source, K: Sink>(
         (S.faults src.new ≡ S.faults src.old) × (out.new ≡ out.old) }
     ensures write_fault { result ≡ Status.WriteFault →
         (K.faults out.old < K.faults out.new)
-        × WritesFrontOfAnswer words.now.items (S.left src.old) (S.left src.new) (K.written out.old) (K.written out.new) }
+        × WritesFrontOfAnswer words.now.items (S.left src.old) (S.left src.new)
+        (K.written out.old) (K.written out.new) }
 
     // After `Done` and `Refused` both counts of faults stand, and the answer's text was written whole.
     ensures done_and_refused { IsAnswered result →
         (S.faults src.new ≡ S.faults src.old) × (K.faults out.new ≡ K.faults out.old) }
     ensures answer { IsAnswered result →
-        WritesAnswer words.now.items result (S.left src.old) (S.left src.new) (K.written out.old) (K.written out.new) }
+        WritesAnswer words.now.items result (S.left src.old) (S.left src.new)
+        (K.written out.old) (K.written out.new) }
 
-    // A command, an input that it is for, and no fault lead to `Done`, where memory suffices.
+    // A command, an input that is a job, and no fault lead to `Done`, where memory suffices.
     ensures complete { AreTaken words.now.items (S.left src.old) → S.faults src.new ≡ S.faults src.old
         → K.faults out.new ≡ K.faults out.old → IsDoneOrNoMemory result }
 
-    // A command, an input that is refused to it, and no fault lead to `Refused`, where memory suffices.
+    // A command, an input that has a refusal, and no fault lead to `Refused`, where memory suffices.
     ensures refused { AreRefused words.now.items (S.left src.old) → S.faults src.new ≡ S.faults src.old
         → K.faults out.new ≡ K.faults out.old → IsRefusedOrNoMemory result }
 {

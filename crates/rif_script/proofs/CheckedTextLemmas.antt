@@ -8,6 +8,8 @@ use Rattle.std.proofs.lemmas.List.Elements.{All-head, All-tail, All-map, All-sam
 use Rattle.rif_refusals.specs.declared.refusal.Refusal.{Refusal}
 use Rattle.rif_refusals.specs.declared.refusal.Refusal.TheVariants.{InputTooLong, TooDeep}
 use Rattle.rif_tree.specs.declared.rule.Doc.{Doc}
+use Rattle.safe_rules.specs.declared.safe_rule.SafeRule.{SafeRule}
+use Rattle.rif_safe.specs.Safeness.{safe_rules_of}
 use Rattle.rif_lex.specs.declared.piece.Piece.TheVariants.{Lexeme}
 use Rattle.rif_lex.specs.declared.token.Kind.{Kind}
 use Rattle.rif_lex.specs.declared.token.Token.{Token}
@@ -24,7 +26,7 @@ use Rattle.prd_canonical.specs.ReadBack.{IsReadBack, IsTooDeep}
 use Rattle.prd_canonical.proofs.CallerLemmas.{canonical_is_read_back, canonical_is_separate}
 use Rattle.rif_script.specs.declared.job.Job.{Job}
 use Rattle.rif_script.specs.CheckedText.{CheckedTextIsAJob, IsTooLongOrDeep, document_job}
-use Rattle.rif_script.specs.Jobs.{IsJob, IsRefused, IsScript, OneOutcome, document_text}
+use Rattle.rif_script.specs.Jobs.{IsJobOf, IsRefused, IsScript, OneOutcome, document_text}
 use Rattle.rif_script.proofs.JobLemmas.{document_of}
 use Rattle.rif_script.proofs.PlainLineLemmas.{document_is_whole, is_plain, script_is_empty}
 
@@ -81,11 +83,12 @@ spelled_plain ss separate =
     (All-map P (written text) lexes.0 slices))
     true
 
-canonical_plain : (bytes : List ℕ) (job : Job) → IsJob bytes job → is_plain true (canonical_text job.doc) ≡ true
-canonical_plain bytes job is =
+canonical_plain : (bytes : List ℕ) (doc : Doc) (job : Job) → IsJobOf bytes doc job →
+    is_plain true (canonical_text doc) ≡ true
+canonical_plain bytes doc job is =
     let document = is.document in
-    spelled_plain (canonical_spelling job.doc)
-    (canonical_is_separate (document_text bytes) document.tokens job.doc is.prefixes document.lexed document.read)
+    spelled_plain (canonical_spelling doc)
+    (canonical_is_separate (document_text bytes) document.tokens doc is.prefixes document.lexed document.read)
 
 no_script : IsScript [] [] [] []
 no_script = record {
@@ -97,21 +100,24 @@ no_script = record {
 }
 
 -- a text whose tokens are a document, or are too deep
-abbrev Outcome : List ℕ → Doc → Type 0
-Outcome text doc =
-    IsJob text (document_job doc) ⊎ ((refusal : Refusal) × IsTooLongOrDeep refusal × IsRefused text refusal)
+abbrev Outcome : List ℕ → Doc → List SafeRule → Type 0
+Outcome text doc rules =
+    IsJobOf text doc (document_job rules) ⊎ ((refusal : Refusal) × IsTooLongOrDeep refusal × IsRefused text refusal)
 
-read_outcome : (text : List ℕ) (doc : Doc) (tokens : List Token) → is_plain true text ≡ true →
-    lexed text ≡ Ok tokens → IsRead tokens text doc [] ⊎ IsTooDeep tokens text → Outcome text doc
-read_outcome text doc tokens plain lexes (inl read) =
+read_outcome : (text : List ℕ) (doc : Doc) (rules : List SafeRule) (tokens : List Token)
+    → safe_rules_of doc ≡ Ok rules →
+    is_plain true text ≡ true → lexed text ≡ Ok tokens → IsRead tokens text doc [] ⊎ IsTooDeep tokens text →
+    Outcome text doc rules
+read_outcome text doc rules tokens safe plain lexes (inl read) =
     let input = (inputs_are_texts text tokens).0 lexes in
     inl (record {
       text = record { short = input.short; utf8 = input.utf8 };
       prefixes = [];
       document = document_of text text doc [] (sym (document_is_whole text plain)) (tokens, lexes, read);
+      safe = safe;
       script = subst (λ (ls : List (List ℕ)). IsScript [] ls [] []) (sym (script_is_empty text plain)) no_script;
     })
-read_outcome text doc tokens plain lexes (inr deep) =
+read_outcome text doc rules tokens safe plain lexes (inr deep) =
     let input = (inputs_are_texts text tokens).0 lexes in
     let whole = sym (document_is_whole text plain) in
     inr (
@@ -127,35 +133,38 @@ read_outcome text doc tokens plain lexes (inr deep) =
       )),
     )
 
-text_outcome : (text : List ℕ) (doc : Doc) → is_plain true text ≡ true →
-    (lexed text ≡ Err InputTooLong) ⊎ IsReadBack text doc → Outcome text doc
-text_outcome text doc plain (inl long) =
+text_outcome : (text : List ℕ) (doc : Doc) (rules : List SafeRule) → safe_rules_of doc ≡ Ok rules →
+    is_plain true text ≡ true → (lexed text ≡ Err InputTooLong) ⊎ IsReadBack text doc → Outcome text doc rules
+text_outcome text doc rules safe plain (inl long) =
     inr (InputTooLong, tt, inl (refl, (inputs_are_refused text InputTooLong).0 long))
-text_outcome text doc plain (inr back) = read_outcome text doc back.0 plain back.1.0 back.1.1
+text_outcome text doc rules safe plain (inr back) =
+    read_outcome text doc rules back.0 safe plain back.1.0 back.1.1
 
 -- by the one outcome of a text it is nothing else
-module _ (jobs : OneOutcome) (text : List ℕ) (doc : Doc) where
-  job_again : (job : Job) → IsJob text job → Outcome text doc → job ≡ document_job doc
-  job_again job is (inl same) = jobs.one_job text job (document_job doc) is same
-  job_again job is (inr other) = absurd (jobs.not_both text job other.0 is other.2)
+module _ (jobs : OneOutcome) (text : List ℕ) (doc : Doc) (rules : List SafeRule) where
+  job_again : (again : Doc) (job : Job) → IsJobOf text again job → Outcome text doc rules →
+      (again ≡ doc) × (job ≡ document_job rules)
+  job_again again job is (inl same) = jobs.one_job text again doc job (document_job rules) is same
+  job_again again job is (inr other) = absurd (jobs.not_both text job other.0 (again, is) other.2)
 
-  refused_again : (refusal : Refusal) → IsRefused text refusal → Outcome text doc → IsTooLongOrDeep refusal
-  refused_again refusal is (inl same) = absurd (jobs.not_both text (document_job doc) refusal same is)
+  refused_again : (refusal : Refusal) → IsRefused text refusal → Outcome text doc rules → IsTooLongOrDeep refusal
+  refused_again refusal is (inl same) = absurd (jobs.not_both text (document_job rules) refusal (doc, same) is)
   refused_again refusal is (inr other) =
       subst IsTooLongOrDeep (jobs.one_refusal text other.0 refusal other.2 is) other.1
 
 pub checked_text_is_a_job : OneOutcome → CheckedTextIsAJob
-checked_text_is_a_job jobs bytes job is =
-    let text = canonical_text job.doc in
+checked_text_is_a_job jobs bytes doc job is =
+    let text = canonical_text doc in
     let document = is.document in
-    let back = canonical_is_read_back (document_text bytes) document.tokens job.doc is.prefixes document.lexed
+    let back = canonical_is_read_back (document_text bytes) document.tokens doc is.prefixes document.lexed
     document.read in
-    let outcome = text_outcome text job.doc (canonical_plain bytes job is) back in
-    let same : (again : Job) → IsJob text again → again ≡ document_job job.doc =
-    λ again read. job_again jobs text job.doc again read outcome in
+    let outcome = text_outcome text doc job.doc is.safe (canonical_plain bytes doc job is) back in
+    let same : (again : Doc) (other : Job) → IsJobOf text again other →
+    (again ≡ doc) × (other ≡ document_job job.doc) =
+    λ again other read. job_again jobs text doc job.doc again other read outcome in
     record {
       outcome = outcome;
       same_job = same;
-      same_text = λ again read. ap (λ (j : Job). canonical_text j.doc) (same again read);
-      refused = λ refusal other. refused_again jobs text job.doc refusal other outcome;
+      same_text = λ again other read. ap canonical_text (same again other read).0;
+      refused = λ refusal other. refused_again jobs text doc job.doc refusal other outcome;
     }

@@ -105,13 +105,13 @@ distinct_at (name ∷ names) (suc i) (suc j) apart lt lt' same =
 
 pub jobs_have_clients : JobsHaveClients
 jobs_have_clients bytes job is =
-    let same = sym is.script.clients in
+    let same = sym is.1.script.clients in
     let formed = subst AreFormed same
-    (names_formed is.prefixes (script_lines bytes) is.script.given is.script.lines_are) in
-    let apart = subst AreApart same (names_apart (sent_by is.script.given)) in (
+    (names_formed is.1.prefixes (script_lines bytes) is.1.script.given is.1.script.lines_are) in
+    let apart = subst AreApart same (names_apart (sent_by is.1.script.given)) in (
       record {
         formed = λ i lt. formed_at job.names i formed lt;
         distinct = λ i j lt lt' same_name. distinct_at job.names i j apart lt lt' same_name;
       },
-      script_clients is.prefixes (script_lines bytes) job.names job.items is.script,
+      script_clients is.1.prefixes (script_lines bytes) job.names job.items is.1.script,
     )

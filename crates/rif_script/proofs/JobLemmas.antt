@@ -1,5 +1,5 @@
--- Jobs from their parts: what is read of an input's document and of its script is the job, and what refuses one of
--- the two refuses the input.
+-- Jobs from their parts: what is read of an input's document, its safe rules and its script are the job, and what
+-- refuses one of these refuses the input.
 use Rattle.std.proofs.Common.{◌≡◌, refl, subst, ap, ℕ, ◌+◌, ◌≤◌, ◌<◌, ◌^◌, ◌==◌, suc, Bool, true, false, cond, List}
 use Rattle.std.proofs.Common.{[], ◌∷◌, drop, length, length-drop, arith, inl, inr}
 use Rattle.std.specs.Prelude.{Ok, Err, IfErr, IfOk}
@@ -10,13 +10,15 @@ use Rattle.rif_refusals.specs.declared.refusal.Refusal.TheVariants.{InputTooLong
 use Rattle.rif_refusals.specs.declared.fault.Fault.{Fault}
 use Rattle.rif_refusals.specs.declared.fault.Fault.TheVariants.{Refused, OutOfMemory}
 use Rattle.rif_tree.specs.declared.rule.Doc.{Doc}
+use Rattle.safe_rules.specs.declared.safe_rule.SafeRule.{SafeRule}
+use Rattle.rif_safe.specs.Safeness.{RefusesRules, safe_rules_of}
 use Rattle.rif_lex.specs.declared.token.Token.{Token}
 use Rattle.rif_lex.specs.Lexing.{Answers, lexed}
 use Rattle.prd_leaves.specs.Documents.{IsRead, IsRefused as IsDocumentRefused, RefusesDocument}
 use Rattle.prd_grammar.specs.Prefixes.{Prefixes}
 use Rattle.rif_script.specs.declared.script.Script.{Script}
 use Rattle.rif_script.specs.JobParts.{IsDocumentText, RefusesText}
-use Rattle.rif_script.specs.Jobs.{HasDocument, IsJob, IsScript, IsScriptRefusal, IsText, RefusesJob, document_text}
+use Rattle.rif_script.specs.Jobs.{HasDocument, IsJobOf, IsScript, IsScriptRefusal, IsText, RefusesJob, document_text}
 use Rattle.rif_script.specs.Jobs.{first_script_line, is_separator, lines_before, lines_of, script_lines, with_byte}
 use Rattle.rif_script.specs.ReadingLines.{no_lines, with_lines}
 use Rattle.rif_script.proofs.ScriptReadingLemmas.{script_read, script_refused}
@@ -53,34 +55,53 @@ document_refused bytes text (Refused refusal) is whole (inr refused) = inr (inr 
   })),
 ))
 
--- and what refuses its script does
+-- and so does what refuses one of its rules
+pub rules_refuse : (bytes : List ℕ) (doc : Doc) (prefixes : Prefixes) (fault : Fault) → IsText bytes →
+    HasDocument bytes doc prefixes → RefusesRules doc fault → RefusesJob bytes fault
+rules_refuse bytes doc prefixes OutOfMemory whole document refused = tt
+rules_refuse bytes doc prefixes (Refused refusal) whole document refused = inr (inr (
+  whole,
+  inr (inr (inl (record {
+    doc = doc;
+    prefixes = prefixes;
+    document = document;
+    refused = refused;
+  }))),
+))
+
+-- and what refuses its script
 pub script_refuses : (bytes : List ℕ) (lines : List (List ℕ)) (at : ℕ) (doc : Doc) (prefixes : Prefixes)
-    (fault : Fault) →
+    (rules : List SafeRule) (fault : Fault) →
     lines ≡ script_lines bytes → at ≡ first_script_line bytes → IsText bytes → HasDocument bytes doc prefixes →
-    Answers {T = Script} (Err fault) (with_lines prefixes at no_lines lines) → RefusesJob bytes fault
-script_refuses bytes lines at doc prefixes OutOfMemory is first whole document refused = tt
-script_refuses bytes lines at doc prefixes (Refused refusal) is first whole document refused =
+    safe_rules_of doc ≡ Ok rules → Answers {T = Script} (Err fault) (with_lines prefixes at no_lines lines) →
+    RefusesJob bytes fault
+script_refuses bytes lines at doc prefixes rules OutOfMemory is first whole document safe refused = tt
+script_refuses bytes lines at doc prefixes rules (Refused refusal) is first whole document safe refused =
     let here = script_refused prefixes at lines refusal refused in
     let all = subst (λ (ls : List (List ℕ)). IsScriptRefusal prefixes ls at refusal) is here in
     inr (inr (
       whole,
-      inr (inr (record {
+      inr (inr (inr (record {
         doc = doc;
         prefixes = prefixes;
         document = document;
+        rules = rules;
+        safe = safe;
         refused = subst (λ (n : ℕ). IsScriptRefusal prefixes (script_lines bytes) n refusal) first all;
-      })),
+      }))),
     ))
 
--- a job is its document and its script
-pub job_of : (bytes : List ℕ) (lines : List (List ℕ)) (at : ℕ) (doc : Doc) (prefixes : Prefixes) (s : Script) →
-    lines ≡ script_lines bytes → IsText bytes → HasDocument bytes doc prefixes →
+-- a job is its document, the document's safe rules and its script
+pub job_of : (bytes : List ℕ) (lines : List (List ℕ)) (at : ℕ) (doc : Doc) (prefixes : Prefixes)
+    (rules : List SafeRule) (s : Script) →
+    lines ≡ script_lines bytes → IsText bytes → HasDocument bytes doc prefixes → safe_rules_of doc ≡ Ok rules →
     with_lines prefixes at no_lines lines ≡ Ok s →
-    IsJob bytes (record { doc = doc; names = s.names; items = s.items })
-job_of bytes lines at doc prefixes s is whole document given = record {
+    IsJobOf bytes doc (record { doc = rules; names = s.names; items = s.items })
+job_of bytes lines at doc prefixes rules s is whole document safe given = record {
   text = whole;
   prefixes = prefixes;
   document = document;
+  safe = safe;
   script = subst (λ (ls : List (List ℕ)). IsScript prefixes ls s.names s.items) is
       (script_read prefixes at lines s given);
 }

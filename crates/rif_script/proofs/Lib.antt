@@ -20,7 +20,6 @@ pub mod OutcomeLemmas
 pub mod SentLeafLemmas
 pub mod FirstLeafLemmas
 pub mod ConstListLemmas
-pub mod SimpleLemmas
 pub mod CallerLemmas
 pub mod PlainLineLemmas
 pub mod CheckedTextLemmas

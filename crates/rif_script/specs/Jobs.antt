@@ -7,7 +7,8 @@
 --     IsLine prefixes line given  what a line of a script is: a client's name and its item, or nothing
 --     IsScript                    the clients and items of the lines of a script
 --     IsScriptRefusal             the first line that makes lines no script, and its least refusal
---     IsJob bytes job             an input is this job
+--     IsJobOf bytes doc job       an input is this job, made of this document, which is the one that was read
+--     IsJob bytes job             the same, of some document
 --     IsRefused bytes refusal     an input has this refusal
 --     OneOutcome                  law: an input is one of these, and has one value of it
 -- Source: the project's own (docs/FORMATS.md, "Jobs" and "Refusals").
@@ -26,6 +27,8 @@ use Rattle.rif_refusals.specs.declared.refusal.Refusal.TheVariants.{TooManyItems
 use Rattle.rif_refusals.specs.declared.fault.Fault.{Fault}
 use Rattle.rif_refusals.specs.declared.fault.Fault.TheVariants.{Refused, OutOfMemory}
 use Rattle.rif_tree.specs.declared.rule.Doc.{Doc}
+use Rattle.safe_rules.specs.declared.safe_rule.SafeRule.{SafeRule}
+use Rattle.rif_safe.specs.Safeness.{safe_rules_of}
 use Rattle.rif_lex.specs.declared.token.Kind.TheVariants.{Word}
 use Rattle.rif_lex.specs.declared.token.Token.{Token}
 use Rattle.rif_lex.specs.Characters.{begins, is_between}
@@ -234,11 +237,17 @@ pub record HasDocument (bytes : List ℕ) (doc : Doc) (prefixes : Prefixes) : Ty
   pub lexed : lexed (document_text bytes) ≡ Ok tokens
   pub read : IsRead tokens (document_text bytes) doc prefixes
 
-pub record IsJob (bytes : List ℕ) (job : Job) : Type 0 where
+-- The input is this job: the document was read of it, the job's rules are the document's, made safe, and its script
+-- was read with the document's prefixes.
+pub record IsJobOf (bytes : List ℕ) (doc : Doc) (job : Job) : Type 0 where
   pub text : IsText bytes
   pub prefixes : Prefixes
-  pub document : HasDocument bytes job.doc prefixes
+  pub document : HasDocument bytes doc prefixes
+  pub safe : safe_rules_of doc ≡ Ok job.doc
   pub script : IsScript prefixes (script_lines bytes) job.names job.items
+
+abbrev pub IsJob : List ℕ → Job → Type 0
+IsJob bytes job = (doc : Doc) × IsJobOf bytes doc job
 
 -- the tokens of the input's document have this refusal
 pub record HasDocumentRefusal (bytes : List ℕ) (refusal : Refusal) : Type 0 where
@@ -246,29 +255,39 @@ pub record HasDocumentRefusal (bytes : List ℕ) (refusal : Refusal) : Type 0 wh
   pub lexed : lexed (document_text bytes) ≡ Ok tokens
   pub refused : IsDocumentRefused tokens (document_text bytes) refusal
 
--- it has a document, and its script has this refusal
+-- it has a document, and one of its rules isn't safe: the refusal of the first that isn't
+pub record HasRuleRefusal (bytes : List ℕ) (refusal : Refusal) : Type 0 where
+  pub doc : Doc
+  pub prefixes : Prefixes
+  pub document : HasDocument bytes doc prefixes
+  pub refused : safe_rules_of doc ≡ Err refusal
+
+-- it has a document of safe rules, and its script has this refusal
 pub record HasScriptRefusal (bytes : List ℕ) (refusal : Refusal) : Type 0 where
   pub doc : Doc
   pub prefixes : Prefixes
   pub document : HasDocument bytes doc prefixes
+  pub rules : List SafeRule
+  pub safe : safe_rules_of doc ≡ Ok rules
   pub refused : IsScriptRefusal prefixes (script_lines bytes) (first_script_line bytes) refusal
 
 -- In this order: the input is too long; it isn't UTF-8; its document has a token that can't be read; the document's
--- tokens are refused; the script is.
+-- tokens are refused; a rule of the document isn't safe; the script is refused.
 abbrev pub IsRefused : List ℕ → Refusal → Type 0
 IsRefused bytes refusal =
     ((refusal ≡ InputTooLong) × (most_input_bytes < length bytes))
     ⊎ (((at : ℕ) × (refusal ≡ NotUtf8 at) × (length bytes ≤ most_input_bytes) × IsValidUpTo bytes at)
     ⊎ (IsText bytes × ((lexed (document_text bytes) ≡ Err refusal)
-    ⊎ (HasDocumentRefusal bytes refusal ⊎ HasScriptRefusal bytes refusal))))
+    ⊎ (HasDocumentRefusal bytes refusal ⊎ (HasRuleRefusal bytes refusal ⊎ HasScriptRefusal bytes refusal)))))
 
 -- a call that gives no job has no memory, or tells the refusal
 abbrev pub RefusesJob : List ℕ → Fault → Type 0
 RefusesJob bytes OutOfMemory = Unit {0}
 RefusesJob bytes (Refused refusal) = IsRefused bytes refusal
 
--- Law: an input is one job at most, has one refusal at most, and not both.
+-- Law: an input is one job at most, of one document, has one refusal at most, and not both.
 pub record OneOutcome : Type 0 where
-  pub one_job : (bytes : List ℕ) (a b : Job) → IsJob bytes a → IsJob bytes b → a ≡ b
+  pub one_job : (bytes : List ℕ) (doc other : Doc) (a b : Job) →
+      IsJobOf bytes doc a → IsJobOf bytes other b → (doc ≡ other) × (a ≡ b)
   pub one_refusal : (bytes : List ℕ) (a b : Refusal) → IsRefused bytes a → IsRefused bytes b → a ≡ b
   pub not_both : (bytes : List ℕ) (job : Job) (refusal : Refusal) → IsJob bytes job → IsRefused bytes refusal → ⊥

@@ -14,7 +14,6 @@ pub mod RefusalLine
 pub mod ScriptSteps
 pub mod SentLeaves
 pub mod SentLines
-pub mod Simple
 pub mod Standard
 pub mod Trace
 pub mod TraceLaws

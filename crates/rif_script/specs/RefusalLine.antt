@@ -5,7 +5,8 @@ use Rattle.rif_refusals.specs.Refusals.{refusal_number}
 use Rattle.rif_refusals.specs.declared.refusal.Counted.{Counted}
 use Rattle.rif_refusals.specs.declared.refusal.Counted.TheVariants.{Rules, Variables, Patterns, Actions}
 use Rattle.rif_refusals.specs.declared.refusal.Refusal.{Refusal}
-use Rattle.rif_refusals.specs.declared.refusal.Refusal.TheVariants.{InputTooLong, NotUtf8, BadToken, Expected, TooDeep}
+use Rattle.rif_refusals.specs.declared.refusal.Refusal.TheVariants.{InputTooLong, NotUtf8, BadToken, Expected}
+use Rattle.rif_refusals.specs.declared.refusal.Refusal.TheVariants.{TooDeep}
 use Rattle.rif_refusals.specs.declared.refusal.Refusal.TheVariants.{IntRange, UnknownPrefix, LeftOut, UnknownBuiltin}
 use Rattle.rif_refusals.specs.declared.refusal.Refusal.TheVariants.{Arity, BadStrategy, PriorityRange, TooMany}
 use Rattle.rif_refusals.specs.declared.refusal.Refusal.TheVariants.{Undeclared, DeclaredTwice, Unsafe, BadLine}

@@ -10,11 +10,11 @@ use Rattle.std.specs.declared.option.Option.{Option}
 use Rattle.rif_values.specs.declared.constant.Const.{Const}
 use Rattle.rif_values.specs.declared.fact.Fact.{Fact}
 use Rattle.rif_values.specs.declared.instance.Instance.{Instance}
-use Rattle.rif_tree.specs.declared.rule.Doc.{Doc}
-use Rattle.rif_tree.specs.declared.rule.Rule.{Rule}
-use Rattle.rif_tree.specs.Rules.{name_of, rule_of, shown_variables}
+use Rattle.rif_tree.specs.Rules.{name_of}
 use Rattle.rif_values.specs.Bindings.{Row, value_at}
 use Rattle.rif_values.specs.Writing.{const_text, fact_text}
+use Rattle.safe_rules.specs.declared.safe_rule.SafeRule.{SafeRule}
+use Rattle.safe_rules.specs.SafeRules.{rule_of, shown_variables}
 use Rattle.session_states.specs.declared.item.Entry.{Entry}
 use Rattle.session_states.specs.declared.turn.Act.{Act}
 use Rattle.session_states.specs.declared.turn.Act.TheVariants.{Idle, Halted, Disposed, Fired, StoppedQuiet}
@@ -35,11 +35,11 @@ abbrev pub variable_text : Row → ℕ × List ℕ → List ℕ
 variable_text row shown = codes " ?" ++ shown.1 ++ codes "=" ++ bound_text (value_at row shown.0)
 
 -- the same of the variable of a number
-abbrev pub text_of_variable : Rule → Row → ℕ → List ℕ
+abbrev pub text_of_variable : SafeRule → Row → ℕ → List ℕ
 text_of_variable rule row v = variable_text row (v, name_of rule.names v)
 
 -- the values of a rule's `Forall` variables
-abbrev pub row_text : Option Rule → Row → List ℕ
+abbrev pub row_text : Option SafeRule → Row → List ℕ
 row_text None row = []
 row_text (Some rule) row = flat_map (variable_text row) (shown_variables rule)
 
@@ -53,9 +53,9 @@ act_word (Some StoppedQuiet) = codes "quiet"
 act_word (Some StoppedLimit) = codes "limit"
 act_word (Some Resting) = codes "rest"
 
-abbrev pub pick_text : Doc → Option Instance → List ℕ
-pick_text doc None = []
-pick_text doc (Some pick) = codes " " ++ decimal pick.rule ++ row_text (rule_of doc pick.rule) pick.row
+abbrev pub pick_text : List SafeRule → Option Instance → List ℕ
+pick_text rules None = []
+pick_text rules (Some pick) = codes " " ++ decimal pick.rule ++ row_text (rule_of rules pick.rule) pick.row
 
 abbrev pub fact_line : List ℕ → Fact → List ℕ
 fact_line sign fact = sign ++ fact_text fact ++ codes "\n"
@@ -68,8 +68,8 @@ effect_text (Net delta) =
     flat_map (fact_line (codes "- ")) delta.removed ++ flat_map (fact_line (codes "+ ")) delta.added
 
 -- what a turn's act, pick and effect show
-abbrev pub act_text : Doc → Turn → List ℕ
-act_text doc turn = act_word turn.act ++ pick_text doc turn.pick ++ codes "\n" ++ effect_text turn.effect
+abbrev pub act_text : List SafeRule → Turn → List ℕ
+act_text rules turn = act_word turn.act ++ pick_text rules turn.pick ++ codes "\n" ++ effect_text turn.effect
 
 abbrev pub turn_text : Job → ℕ → Turn → List ℕ
 turn_text job k turn =

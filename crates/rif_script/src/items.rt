@@ -1,6 +1,7 @@
 //! Items as the lines of a script have them.
 ghost use Rattle.std.specs.Prelude.{◌≡◌};
-ghost use Rattle.rif_script.specs.ReadingItems.{asserted_from, fact_retracted, item_from, is_fact_sign, modified_from};
+ghost use Rattle.rif_script.specs.ReadingItems.{asserted_from, fact_retracted, item_from, is_fact_sign};
+ghost use Rattle.rif_script.specs.ReadingItems.{modified_from};
 ghost use Rattle.rif_script.specs.ReadingItems.{modify_of, number_from, number_of, retracted_from, retracted_with};
 ghost use Rattle.rif_script.specs.ReadingItems.{slot_behind, whole};
 ghost use Rattle.rif_script.specs.SentLeaves.{Gives, seen};

@@ -44,13 +44,13 @@ pub fn jobs_have_clients()
     ensures { JobsHaveClients }
 {}
 
-/// Law: an input is one job at most, has one refusal at most, and not both.
+/// Law: an input is one job at most, of one document, has one refusal at most, and not both.
 pub fn one_outcome()
     ensures { OneOutcome }
 {}
 
-/// Law: the canonical text of the document of an input, as an input of its own, is a job of that document
-/// with no clients and no items, and so has itself as its canonical text; or it is refused, where it is
+/// Law: the canonical text of the document that was read of an input, as an input of its own, is a job of that
+/// document with no clients and no items, and so has itself as its canonical text; or it is refused, where it is
 /// longer than an input may be, or at a bracket in it that stands deeper than one may; and it is nothing else.
 pub fn checked_text_is_a_job()
     ensures { CheckedTextIsAJob }

@@ -2,11 +2,9 @@
 //!
 //! | File | Has | Its words |
 //! |---|---|---|
-//! | `job.rt` | `Job`, a document and the items of its clients; `read_job` | `specs/Jobs.antt` |
+//! | `job.rt` | `Job`, safe rules and the items of clients; `read_job`, `read_doc_and_job` | `specs/Jobs.antt` |
 //! | `document_part.rt` | a job's document and its script, and the lines of a text | `specs/Jobs.antt` |
 //! | `script.rt`, `script_line.rt` | the clients and items of a script, and what its lines are | `specs/Jobs.antt` |
-//! | `simple.rt` | `simple_job`, whether a job is one that a run can evaluate yet | `specs/Simple.antt` |
-//! | `simple_rule.rt`, `simple_formula.rt` | the same of a rule and of a formula | `specs/Simple.antt` |
 //! | `items.rt`, `facts.rt`, `constants.rt` | what the tokens of a line are | `specs/Jobs.antt` |
 //! | `sent_tokens.rt`, `signs.rt` | the tokens that are left of a line | |
 //! | `cutting.rt` | `batches_of`, the batches of a job for one thread | `specs/Cutting.antt` |
@@ -44,9 +42,6 @@ mod script;
 mod script_line;
 mod sent_tokens;
 mod signs;
-mod simple;
-mod simple_formula;
-mod simple_rule;
 mod sink;
 mod source;
 mod standard;
@@ -55,11 +50,10 @@ mod trace;
 pub use cutting::batches_of;
 pub use document_part::doc_part;
 pub use failed::Failed;
-pub use job::{Job, read_job};
+pub use job::{Job, read_doc_and_job, read_job};
 pub use memory_sink::MemSink;
 pub use memory_source::MemSource;
 pub use refusal_line::write_refusal;
-pub use simple::simple_job;
 pub use sink::Sink;
 pub use source::Source;
 pub use standard::{StdSink, StdSource};

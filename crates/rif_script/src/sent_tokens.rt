@@ -20,7 +20,8 @@ pub struct SentTokens<'a> {
 }
 
 impl<'a> SentTokens<'a> {
-    ghost use Rattle.std.specs.Prelude.{◌≡◌, ◌≤◌, ◌↔◌, ◌<◌, ◌∷◌, [], drop, length, map, Ok, IfOk, IsTrue, MatchOption};
+    ghost use Rattle.std.specs.Prelude.{◌≡◌, ◌≤◌, ◌↔◌, ◌<◌, ◌∷◌, [], drop, length, map, Ok, IfOk, IsTrue};
+    ghost use Rattle.std.specs.Prelude.{MatchOption};
     ghost use Rattle.rif_lex.specs.Lexing.{lexed};
     ghost use Rattle.rif_lex.specs.Spelling.{written};
     ghost use Rattle.prd_grammar.specs.declared.leaf.Leaf.TheVariants.{Carets};

@@ -4,15 +4,15 @@ ghost use Rattle.std.specs.List.{flat_map};
 ghost use Rattle.std.specs.Option.{option_copied};
 ghost use Rattle.rif_script.specs.Lines.{entry_line};
 ghost use Rattle.rif_values.specs.Bindings.{value_at};
-ghost use Rattle.rif_tree.specs.Rules.{forall_variables, rule_of};
+ghost use Rattle.safe_rules.specs.SafeRules.{rule_of};
 ghost use Rattle.rif_script.specs.Trace.{bound_text, text_of_variable, row_text, act_word, pick_text, fact_line};
 ghost use Rattle.rif_script.specs.Trace.{effect_text, act_text, turn_text, turns_text, firing_count, end_line};
 ghost use Rattle.rif_script.specs.Trace.{run_text};
 
 use crate::job::Job;
 use crate::lines::{push_entry_lines, push_name, push_number};
-use rif_tree::{Doc, Rule};
 use rif_values::{Binding, Fact, Instance, OutOfMemory, push_const, push_fact};
+use safe_rules::SafeRule;
 use session_states::{Act, Effect, Entry, Turn};
 use std::alloc::Global;
 
@@ -55,15 +55,15 @@ fn push_turn(out: &mut Vec<u8>, job: &Job, number: usize, turn: &Turn) -> Result
     push_number(out, number as u64)?;
     out.push(b'\n')?;
     push_entry_lines(out, b"in", job.names.as_slice(), turn.batch.entries())?;
-    push_act(out, &job.doc, turn)
+    push_act(out, job.doc.rules(), turn)
 }
 
 // Appends what a turn's act, pick and effect show.
-fn push_act(out: &mut Vec<u8>, doc: &Doc, turn: &Turn) -> Result<(), OutOfMemory>
-    ensures { OnOk result (out.new.items ≡ out.old.items ++ act_text doc.now turn.now) }
+fn push_act(out: &mut Vec<u8>, rules: &[SafeRule], turn: &Turn) -> Result<(), OutOfMemory>
+    ensures { OnOk result (out.new.items ≡ out.old.items ++ act_text rules.now turn.now) }
 {
     push_word(out, turn.act)?;
-    push_pick(out, doc, &turn.pick)?;
+    push_pick(out, rules, &turn.pick)?;
     out.push(b'\n')?;
     push_effect(out, &turn.effect)
 }
@@ -92,64 +92,57 @@ fn word(act: Act) -> &'static [u8]
     }
 }
 
-fn push_pick(out: &mut Vec<u8>, doc: &Doc, pick: &Option<Instance>) -> Result<(), OutOfMemory>
-    ensures { OnOk result (out.new.items ≡ out.old.items ++ pick_text doc.now pick.now) }
+fn push_pick(
+    out: &mut Vec<u8>,
+    rules: &[SafeRule],
+    pick: &Option<Instance>,
+) -> Result<(), OutOfMemory>
+    ensures { OnOk result (out.new.items ≡ out.old.items ++ pick_text rules.now pick.now) }
 {
     let Some(pick) = pick else {
         return Ok(());
     };
     out.push(b' ')?;
     push_number(out, u64::from(pick.rule))?;
-    match rule_of(doc, pick.rule) {
+    match rule_of(rules, pick.rule) {
         Some(rule) => push_row(out, rule, &pick.row),
         None => Ok(()),
     }
 }
 
 // The rule of a number, counted from 1, where there is one.
-fn rule_of(doc: &Doc, number: u32) -> Option<&Rule>
-    ensures { option_copied result ≡ rule_of doc.now number }
+fn rule_of(rules: &[SafeRule], number: u32) -> Option<&SafeRule>
+    ensures { option_copied result ≡ rule_of rules.now number }
 {
     match number.checked_sub(1) {
-        Some(place) => doc.rules.get(place as usize),
+        Some(place) => rules.get(place as usize),
         None => None,
     }
 }
 
 // Appends the names and values of a rule's `Forall` variables.
 #[tactic(auto, using(crate::proofs::RowLemmas::row_is_shown))]
-fn push_row(out: &mut Vec<u8>, rule: &Rule, row: &Binding) -> Result<(), OutOfMemory>
+fn push_row(out: &mut Vec<u8>, rule: &SafeRule, row: &Binding) -> Result<(), OutOfMemory>
     ensures { OnOk result (out.new.items ≡ out.old.items ++ row_text (Some rule.now) row.now) }
 {
-    push_levels(out, rule, row)
-}
-
-fn push_levels(out: &mut Vec<u8>, rule: &Rule, row: &Binding) -> Result<(), OutOfMemory>
-    ensures { OnOk result (out.new.items ≡
-        out.old.items ++ flat_map (text_of_variable rule.now row.now) (forall_variables rule.now)) }
-{
-    for level in rule.levels.as_slice() {
-        push_variables(out, rule, row, level.vars.as_slice())?;
+    for var in 0..rule.head_vars {
+        push_variable(out, rule, row, var)?;
     }
     Ok(())
 }
 
-fn push_variables(
+fn push_variable(
     out: &mut Vec<u8>,
-    rule: &Rule,
+    rule: &SafeRule,
     row: &Binding,
-    vars: &[u32],
+    var: u32,
 ) -> Result<(), OutOfMemory>
-    ensures { OnOk result (out.new.items ≡
-        out.old.items ++ flat_map (text_of_variable rule.now row.now) vars.now) }
+    ensures { OnOk result (out.new.items ≡ out.old.items ++ text_of_variable rule.now row.now var) }
 {
-    for var in vars {
-        out.extend_from_slice(b" ?")?;
-        push_name(out, rule.names.as_slice(), *var)?;
-        out.push(b'=')?;
-        push_value(out, row, *var)?;
-    }
-    Ok(())
+    out.extend_from_slice(b" ?")?;
+    push_name(out, rule.names.as_slice(), var)?;
+    out.push(b'=')?;
+    push_value(out, row, var)
 }
 
 fn push_value(out: &mut Vec<u8>, row: &Binding, var: u32) -> Result<(), OutOfMemory>

@@ -93,10 +93,13 @@ module _ {K : Type 0} {cmp : K → K → Ordering} (total : IsTotalOrder cmp) wh
   put_between [] k zero within below above = refl
   put_between [] k (suc i) within below above = absurd (omega arith)
   put_between (x ∷ xs) k zero within below above =
-      ap (λ o. match_ordering o (k ∷ x ∷ xs) (x ∷ xs) (x ∷ insert_key cmp xs k)) (turned x k Greater (above 0 x (omega arith) (omega arith)))
+      ap (λ o. match_ordering o (k ∷ x ∷ xs) (x ∷ xs) (x ∷ insert_key cmp xs k))
+      (turned x k Greater (above 0 x (omega arith) (omega arith)))
   put_between (x ∷ xs) k (suc i) within below above =
-      ap (λ o. match_ordering o (k ∷ x ∷ xs) (x ∷ xs) (x ∷ insert_key cmp xs k)) (turned x k Less (below 0 x (omega arith) (omega arith)))
-      ∙ ap (λ ys. x ∷ ys) (put_between xs k i (omega arith) (λ j d low high. below (suc j) d (omega arith) (omega arith))
+      ap (λ o. match_ordering o (k ∷ x ∷ xs) (x ∷ xs) (x ∷ insert_key cmp xs k))
+      (turned x k Less (below 0 x (omega arith) (omega arith)))
+      ∙ ap (λ ys. x ∷ ys) (put_between xs k i (omega arith)
+      (λ j d low high. below (suc j) d (omega arith) (omega arith))
       (λ j d low high. above (suc j) d (omega arith) (omega arith)))
 
   -- what a binary search answers, in the words of sets

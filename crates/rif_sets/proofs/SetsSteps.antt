@@ -92,7 +92,8 @@ module _ {K : Type 0} {cmp : K → K → Ordering} (total : IsTotalOrder cmp) (e
       let after : List K = patched cmp set more less in
       patched_steps (filter p set) (filter p more) (filter p less) (set_filter total exact p set s)
       ∙ sym (is_patched total exact (filter p set) (filter p more) (filter p less) (filter p after)
-      (set_filter total exact p set s) (set_filter total exact p after (set_patched total exact set more less s)) (λ q.
+      (set_filter total exact p set s)
+      (set_filter total exact p after (set_patched total exact set more less s)) (λ q.
       let part = has_filter total exact p after q in
       let whole = has_patched total exact set more less q in
       let kept = has_filter total exact p set q in

@@ -1,4 +1,5 @@
--- What the words of sets and changes promise: the statements of the laws in src/set_laws.rt.
+-- What the words of sets and changes promise: the statements of the laws in src/set_laws.rt. Each holds of a total
+-- order; those that end in an equation between lists, or speak of `Contains`, of one that also tells all apart.
 -- Source: the project's own way to write finite sets.
 use Rattle.std.specs.Prelude.{◌≡◌, not, ◌&&◌, ◌||◌, List, IsTrue, ◌↔◌}
 use Rattle.std.specs.declared.cmp.Ordering.{Ordering}
@@ -26,7 +27,8 @@ module _ {K : Type 0} (cmp : K → K → Ordering) where
   -- a change leaves a set, with what is added and with what was there and isn't removed
   abbrev pub AddsAndRemoves : Type 0
   AddsAndRemoves = (old more less : List K) → IsSet cmp old → IsSet cmp (patched cmp old more less)
-      × ((q : K) → has cmp (patched cmp old more less) q ≡ (has cmp more q || (not (has cmp less q) && has cmp old q)))
+      × ((q : K) → has cmp (patched cmp old more less) q
+      ≡ (has cmp more q || (not (has cmp less q) && has cmp old q)))
 
   -- taking out and then putting in, one after the other, is the change
   abbrev pub IsDoneOneByOne : Type 0

@@ -6,7 +6,10 @@
 
 pub use rif_refusals::{Counted, Fault, Refusal, limits, limits_are_the_stated_ones};
 pub use rif_sets::{find_in_set, set_laws, sorted_set};
-pub use rif_tree::{Action, Decl, Doc, Formula, Func, Level, Pred, Rule, Target, Term};
+pub use rif_tree::{
+    Action, Arity, Builtin, Decl, Doc, Formula, Func, KEYWORDS, Keyword, Level, Pred, Rule, Target,
+    Term, func_namespace, pred_namespace,
+};
 pub use rif_values::{
     Binding, Change, Const, Delta, Fact, GREATEST_INTEGER, Instance, Integer, LEAST_INTEGER,
     Listed, OutOfMemory, RowDelta, Shared, Text, are_same, derived_orders_are_the_stated_ones, nth,

@@ -7,7 +7,7 @@
 //! | `builtin.rt` | `Func`, `Pred`, `Builtin`: the built-ins; `Arity` | |
 //! | `builtin_names.rt` | their names and numbers of arguments | `specs/BuiltinNames.antt` |
 //! | `keyword.rt` | `Keyword`: the words that the grammar spells | `specs/Keywords.antt` |
-//! | `copying.rt` | how a tree is copied | |
+//! | `copying.rt` | how a tree is copied: `CopyIn`, `copy_items` | |
 //! | `laws.rt` | laws of what is free, ready and in scope, and of names | `specs/Laws.antt` |
 //!
 //! Begin at `Doc`.
@@ -23,6 +23,7 @@ mod tree;
 
 pub use builtin::{Arity, Builtin, Func, Pred};
 pub use builtin_names::{func_namespace, pred_namespace};
+pub use copying::{CopyIn, copy_items};
 pub use keyword::{KEYWORDS, Keyword};
 pub use laws::{
     builtins_are_named, functions_are_named, keywords_are_named, parts_have_what_is_free,

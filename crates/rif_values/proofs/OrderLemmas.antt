@@ -1,5 +1,5 @@
 -- The derived orders are the stated ones, and these are total and tell all elements apart.
-use Rattle.std.proofs.Common.{◌≡◌, ℕ, List, refl, ap, subst}
+use Rattle.std.proofs.Common.{◌≡◌, ℕ, refl, ap, subst}
 use Rattle.std.specs.declared.cmp.Ordering.{Ordering}
 use Rattle.std.specs.Ordering.{ordering_then, nat_cmp}
 use Rattle.std.specs.Cmp.{IsTotalOrder}
@@ -10,6 +10,7 @@ use Rattle.rif_values.specs.declared.constant.Const.TheVariants.{Int, Bool, Str,
 use Rattle.rif_values.specs.declared.fact.Fact.{Fact}
 use Rattle.rif_values.specs.declared.fact.Fact.TheVariants.{Atom, Frame, Member}
 use Rattle.rif_values.specs.declared.instance.Instance.{Instance}
+use Rattle.rif_values.specs.Bindings.{Row}
 use Rattle.rif_values.specs.contracts.constant.ConstOrd.TheImpl as const_order
 use Rattle.rif_values.specs.contracts.fact.FactOrd.TheImpl as fact_order
 use Rattle.rif_values.specs.contracts.binding.BindingOrd.TheImpl as binding_order
@@ -53,12 +54,14 @@ fact_order_is = λ i a b. derived_fact a b i
 -- the derived order of bindings is the stated one
 pub binding_order_is : binding_order.ghosts.cmp ≡ binding_cmp
 binding_order_is =
-    ap (λ (R : Const → Const → Ordering). slice_cmp (λ (p q : ℕ × Const). ordering_then (nat_cmp p.0 q.0) (R p.1 q.1))) const_order_is
+    ap (λ (R : Const → Const → Ordering).
+    slice_cmp (λ (p q : ℕ × Const). ordering_then (nat_cmp p.0 q.0) (R p.1 q.1))) const_order_is
 
 -- the derived order of instances is the stated one
 pub instance_order_is : instance_order.ghosts.cmp ≡ instance_cmp
 instance_order_is =
-    ap (λ (R : List (ℕ × Const) → List (ℕ × Const) → Ordering). λ (a b : Instance). ordering_then (nat_cmp a.rule b.rule) (R a.row b.row)) binding_order_is
+    ap (λ (R : Row → Row → Ordering).
+    λ (a b : Instance). ordering_then (nat_cmp a.rule b.rule) (R a.row b.row)) binding_order_is
 
 pub total_consts : IsTotalOrder const_cmp
 total_consts =
@@ -71,7 +74,7 @@ total_facts =
 
 pub total_bindings : IsTotalOrder binding_cmp
 total_bindings =
-    let P : (List (ℕ × Const) → List (ℕ × Const) → Ordering) → Type 0 = λ R. IsTotalOrder R in
+    let P : (Row → Row → Ordering) → Type 0 = λ R. IsTotalOrder R in
     subst P binding_order_is (binding_laws.lawful).total
 
 pub total_instances : IsTotalOrder instance_cmp

@@ -11,6 +11,7 @@ use Rattle.rif_values.specs.declared.constant.Const.{Const}
 use Rattle.rif_values.specs.declared.constant.Const.TheVariants.{Int, Bool, Str, Iri, Local, Fresh}
 use Rattle.rif_values.specs.declared.fact.Fact.{Fact}
 use Rattle.rif_values.specs.declared.fact.Fact.TheVariants.{Atom, Frame, Member}
+use Rattle.rif_values.specs.Bindings.{Row}
 
 -- texts are compared by bytes
 abbrev pub text_cmp : List ℕ → List ℕ → Ordering
@@ -50,5 +51,5 @@ fact_cmp f g = nat_cmp (fact_kind f) (fact_kind g)
 abbrev pub pair_cmp : ℕ × Const → ℕ × Const → Ordering
 pair_cmp p q = ordering_then (nat_cmp p.0 q.0) (const_cmp p.1 q.1)
 
-abbrev pub binding_cmp : List (ℕ × Const) → List (ℕ × Const) → Ordering
+abbrev pub binding_cmp : Row → Row → Ordering
 binding_cmp = slice_cmp pair_cmp

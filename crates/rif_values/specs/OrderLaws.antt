@@ -1,4 +1,5 @@
 -- What the orders of constants, facts, bindings and instances keep.
+-- Source: the project's own (docs/PROFILE.md, "Order").
 use Rattle.std.specs.Cmp.{IsTotalOrder}
 use Rattle.rif_values.specs.Order.{const_cmp, fact_cmp, binding_cmp}
 use Rattle.rif_values.specs.InstanceOrder.{instance_cmp}

@@ -22,11 +22,9 @@ pub struct Binding {
 }
 
 impl Model for Binding {
-    ghost use Rattle.std.specs.Prelude.{List, ℕ};
-    ghost use Rattle.rif_values.specs.declared.constant.Const.{Const};
-    ghost use Rattle.rif_values.specs.Bindings.{IsBinding};
+    ghost use Rattle.rif_values.specs.Bindings.{IsBinding, Row};
 
-    ghost Value = { List (ℕ × Const) };
+    ghost Value = { Row };
 
     ghost view = { λ binding. binding.pairs };
 

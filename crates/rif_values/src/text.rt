@@ -1,4 +1,4 @@
-ghost use Rattle.std.specs.Prelude.{◌≡◌, ◌==◌, IfOk, IsUtf8, Some};
+ghost use Rattle.std.specs.Prelude.{◌≡◌, ◌==◌, IfOk, IsUtf8, Some, string_bytes};
 ghost use Rattle.std.specs.Cmp.{partial_equiv_from_equiv};
 ghost use Rattle.std.specs.Cmp.Lexicographic.{slice_cmp, pointwise, nat_list_eq_equiv, nat_list_cmp_total};
 ghost use Rattle.std.specs.Cmp.Lexicographic.{texts_ties, texts_po};
@@ -51,6 +51,15 @@ impl Text {
     {
         Ok(Text {
             content: ArcStr::from_str(alloc, text)?,
+        })
+    }
+
+    /// The text of a `String`, whose bytes it keeps where they are.
+    pub fn from_string(text: String) -> Result<Text, OutOfMemory>
+        ensures { IfOk result (λ made. made ≡ string_bytes text) }
+    {
+        Ok(Text {
+            content: ArcStr::from_string(text)?,
         })
     }
 

@@ -1,5 +1,6 @@
 -- Entries of which only the last may end a batch.
-use Rattle.std.proofs.Common.{◌≡◌, ◌∙◌, ◌↔◌, ◌||◌, Bool, true, false, not, IsTrue, List, [], ◌∷◌, ◌++◌, refl, sym, subst}
+use Rattle.std.proofs.Common.{◌≡◌, ◌∙◌, ◌↔◌, ◌||◌, Bool, true, false, not, IsTrue}
+use Rattle.std.proofs.Common.{List, [], ◌∷◌, ◌++◌, refl, sym, subst}
 use Rattle.std.specs.List.{list_any}
 use Rattle.session_states.specs.declared.item.Entry.{Entry}
 use Rattle.session_states.specs.Batches.{ends_batch, EndsLast}
@@ -32,7 +33,8 @@ none_ends_before (entry ∷ []) last ended = both_false (ends_batch entry.item) 
 none_ends_before (entry ∷ next ∷ before) last ended =
     both_false (ends_batch entry.item) _ ended.0 (none_ends_before (next ∷ before) last ended.1)
 
-denied : (E : Type 0) (found any : Bool) → found ≡ any → (any ≡ false → E) → (E → any ≡ false) → IsTrue (not found) ↔ E
+denied : (E : Type 0) (found any : Bool) → found ≡ any → (any ≡ false → E) → (E → any ≡ false)
+    → IsTrue (not found) ↔ E
 denied E false any same there back = (λ none. there (sym same), λ ended. refl)
 denied E true any same there back = (λ none. there (sym same ∙ sym none), λ ended. sym (same ∙ back ended))
 
@@ -41,4 +43,5 @@ pub ended_where : (before entries : List Entry) (last : Entry) (found : Bool) �
     entries ≡ before ++ last ∷ [] → found ≡ any_ends before → IsTrue (not found) ↔ EndsLast entries
 ended_where before entries last found split is =
     subst (λ (es : List Entry). IsTrue (not found) ↔ EndsLast es) (sym split)
-    (denied (EndsLast (before ++ last ∷ [])) found (any_ends before) is (ends_last before last) (none_ends_before before last))
+    (denied (EndsLast (before ++ last ∷ [])) found (any_ends before) is (ends_last before last)
+    (none_ends_before before last))

@@ -7,7 +7,7 @@
 //! | `tests/lexing.rt`, `tests/tokens.rt`, `tests/utf8.rt` | tokens |
 //! | `tests/documents.rt` | documents |
 //! | `tests/jobs.rt`, `tests/scripts.rt`, `tests/limits.rt` | the parts of a job, its lines, its limits |
-//! | `tests/simple.rt`, `tests/cuts.rt` | which jobs are simple, and the batches of a job |
+//! | `tests/cuts.rt` | the batches of a job |
 //! | `tests/ends.rt` | readers and writers that fail |
 #![tactic(auto)]
 

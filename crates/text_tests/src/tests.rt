@@ -6,6 +6,5 @@ mod jobs;
 mod lexing;
 mod limits;
 mod scripts;
-mod simple;
 mod tokens;
 mod utf8;

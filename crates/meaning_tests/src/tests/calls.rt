@@ -5,8 +5,8 @@ use prd_relation::{Candidate, Plain, choose_plain};
 use rif_facts::Facts;
 use rif_match::{list_instances, matches};
 use rif_refusals::Fault;
-use rif_tree::Doc;
 use rif_values::Binding;
+use safe_rules::SafeDoc;
 use std::alloc::Global;
 use std::test::Fail;
 
@@ -50,18 +50,37 @@ fn a_change_removes_and_adds_facts(rt: HostRuntime) -> Result<(), Fail> {
     Ok(())
 }
 
-const OF_C_WITHOUT_P: &str = "And(?x # _C Not(_p(?x)))";
+const ALWAYS: &str = "If And()";
 
-/// A condition, a second one, and the rows that the instances of the first extend to under the second.
+const OF_C_WITHOUT_P: &str = "Forall ?x (If And(?x # _C Not(_p(?x)))";
+
+/// A rule up to its block, a second one, and the rows that the instances of the first extend to under the condition
+/// of the second.
 static CONDITIONS: &[(&str, &str, &str)] = &[
-    ("And()", "?x # _C", "_x, _y, "),
-    (OF_C_WITHOUT_P, "?x # _C", "_y, "),
-    (OF_C_WITHOUT_P, "_p(?x)", ""),
-    ("And()", "Or(?x # _C _p(?x))", "_x, _y, "),
-    ("?x # _C", "?y # _C", "_x,_x, _x,_y, _y,_x, _y,_y, "),
-    ("_p(?x)", "?x[_s->?y]", "_x,_a, _x,_b, "),
-    ("And()", "And(?x # _C Exists ?z (?x[_s->?z]))", "_x, "),
-    ("?x[_s->?y]", "?y = _b", "_x,_b, "),
+    (ALWAYS, "Forall ?x (If ?x # _C", "_x, _y, "),
+    (OF_C_WITHOUT_P, "Forall ?x (If ?x # _C", "_y, "),
+    (OF_C_WITHOUT_P, "Forall ?x (If _p(?x)", ""),
+    (ALWAYS, "Forall ?x (If Or(?x # _C _p(?x))", "_x, _y, "),
+    (
+        "Forall ?x (If ?x # _C",
+        "Forall ?x ?y (If And(?x # _C ?y # _C)",
+        "_x,_x, _x,_y, _y,_x, _y,_y, ",
+    ),
+    (
+        "Forall ?x (If _p(?x)",
+        "Forall ?x ?y (If ?x[_s->?y]",
+        "_x,_a, _x,_b, ",
+    ),
+    (
+        ALWAYS,
+        "Forall ?x (If And(?x # _C Exists ?z (?x[_s->?z]))",
+        "_x, ",
+    ),
+    (
+        "Forall ?x ?y (If ?x[_s->?y]",
+        "Forall ?x ?y (If And(?y = _b ?x # _C)",
+        "_x,_b, ",
+    ),
 ];
 
 #[test]
@@ -79,25 +98,24 @@ fn rows_satisfy_conditions(rt: HostRuntime) -> Result<(), Fail> {
     Ok(())
 }
 
-// The document of one rule of two variables, with this condition.
-fn rule_with(alloc: Global, condition: &str) -> Result<Doc, Fault> {
-    let rule = format!(in alloc; "Forall ?x ?y (If {condition} Then Do(Assert(_p())))")?;
+// The document of the rule that begins so.
+fn rule_with(alloc: Global, front: &str) -> Result<SafeDoc, Fault> {
+    let end = if front.starts_with("Forall") { ")" } else { "" };
+    let rule = format!(in alloc; "{front} Then Do(Assert(_p())){end}")?;
     doc_of(alloc, rule.as_str())
 }
 
-// Appends the rows that extend a row and satisfy the document's conditions.
+// Appends the rows that extend a row and satisfy the conditions of the document's rules.
 fn show_longer(
     alloc: Global,
     out: &mut Vec<u8>,
     facts: &Facts,
-    doc: &Doc,
+    doc: &SafeDoc,
     row: &Binding,
 ) -> Result<(), Fault> {
-    for rule in doc.rules.as_slice() {
-        if let Some(condition) = &rule.condition {
-            for longer in matches(alloc, facts, row, condition)?.as_slice() {
-                show_row(alloc, out, longer)?;
-            }
+    for rule in doc.rules() {
+        for longer in matches(alloc, facts, row, &rule.condition)?.as_slice() {
+            show_row(alloc, out, longer)?;
         }
     }
     Ok(())

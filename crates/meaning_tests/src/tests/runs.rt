@@ -1,4 +1,4 @@
-//! Runs worked by hand, of jobs that the program can't run yet.
+//! Whole runs, worked by hand.
 use prd_relation::replay_plain;
 use rif_script::{batches_of, read_job, write_run};
 use session_states::Turn;

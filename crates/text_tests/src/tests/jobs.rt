@@ -1,8 +1,5 @@
 //! The two parts of a job, and which of several refusals is told.
 use crate::outcome::{is_read, is_refused, outcome};
-use rif_refusals::Refusal;
-use rif_script::write_refusal;
-use rif_values::Text;
 use std::test::Fail;
 
 /// A job whose parts aren't told apart, or whose document or line between the parts is wrong, and its refusal.
@@ -29,6 +26,48 @@ static PARTS: &[(&str, &str)] = &[
     ("Document()\n%%\na fire 1000001 1\n", "17 line 3"),
     ("Document()\n%%\nA fire 1000001\n", "17 line 3"),
 ];
+
+/// A document with rules that aren't safe, and the refusal of its job, whose script has a faulty line.
+static UNSAFE: &[(&str, &str)] = &[
+    (
+        "Document(Group(If _p(?x) Then Do(Assert(_q()))))",
+        "14 rule 1 var ?x",
+    ),
+    (
+        "Document(Group(Forall ?x (If Exists ?x (_p(?x)) Then Do(Assert(_q())))))",
+        "15 rule 1 var ?x",
+    ),
+    (
+        "Document(Group(If And(Or(_a() _b()) Or(_a() _b()) Or(_a() _b()) Or(_a() _b()) Or(_a() _b()) \
+         Or(_a() _b()) Or(_a() _b())) Then Do(Assert(_q()))))",
+        "21 rule 1",
+    ),
+    (
+        "Document(Group(Do(Assert(_p())) Forall ?y (If _p() Then Do(Assert(_q(?y))))))",
+        "16 rule 2 var ?y",
+    ),
+    // rule by rule
+    (
+        "Document(Group(Forall ?y (If _p() Then Do(Assert(_q(?y)))) Do(Assert(_q(?z)))))",
+        "16 rule 1 var ?y",
+    ),
+    // what refuses a token comes before
+    (
+        "Document(Group(If _p(?x) Then Do(Assert(_q()))\nForall ?a ?b ?c ?d ?e ?f ?g ?h ?i ?j ?k ?l ?m \
+         ?n ?o ?p ?q ?r ?s ?t ?u ?v ?w ?x ?y ?z ?0 ?1 ?2 ?3 ?4 ?5 ?6",
+        "13 variables line 2 col 104",
+    ),
+];
+
+#[test]
+fn a_rule_that_is_not_safe_is_told_before_the_script(rt: HostRuntime) -> Result<(), Fail> {
+    let alloc = rt.alloc();
+    for (document, wanted) in UNSAFE {
+        let job = format!(in alloc; "{document}\n%%\na jump\n")?;
+        is_refused(&rt, alloc, job.as_str(), wanted)?;
+    }
+    Ok(())
+}
 
 /// Jobs whose documents end as they may.
 static READ: &[(&str, &str)] = &[
@@ -63,17 +102,5 @@ fn broken_bytes_are_told_first(rt: HostRuntime) -> Result<(), Fail> {
         let found = outcome(rt.alloc(), bytes)?;
         assert_eq!(rt; found.as_slice(), wanted.as_bytes(), "{wanted}");
     }
-    Ok(())
-}
-
-#[test]
-fn a_refusal_that_is_kept_for_later_has_its_line(rt: HostRuntime) -> Result<(), Fail> {
-    let alloc = rt.alloc();
-    let name = Text::from_str(alloc, "x")?;
-    let mut out = Vec::new(alloc);
-    write_refusal(alloc, &mut out, &Refusal::Unsafe { rule: 2, name })?;
-    write_refusal(alloc, &mut out, &Refusal::TooManyBranches { rule: 1 })?;
-    let wanted = "refused 16 rule 2 var ?x\nrefused 21 rule 1\n";
-    assert_eq!(rt; out.as_slice(), wanted.as_bytes());
     Ok(())
 }

@@ -17,7 +17,7 @@ fn greatest_rule(alloc: Global) -> Result<String, AllocError> {
         text.push_str("And(")?;
     }
     for place in 0..32 {
-        write!(text, " _p({place})")?;
+        write!(text, " _p(?v{place})")?;
     }
     for _ in 5..64 {
         text.push_str(")")?;

@@ -5,5 +5,5 @@ use Rattle.rif_match.proofs.listing.list_instances.Given as goal
 
 abbrev pub invariant-loop-place : goal.invariant-loop-place
 invariant-loop-place l =
-    l.all.items ++ instances_from (suc l.place) (drop l.place l.doc.rules)
+    l.all.items ++ instances_from (suc l.place) (drop l.place l.doc)
     (base_of l.facts) ≡ conflict_set l.doc l.facts

@@ -10,4 +10,5 @@ from_pairs-requires c =
     let is = c.in_ok-shared.ensures ∙ c.in_ok-pairs.ensures
     ∙ ap (without_variables c.args.vars.now) c.pairs.ensures.pairs in
     subst IsBinding (sym is)
-    (binding_filter (λ pair. not (list_any (λ v. v == pair.0) c.args.vars.now)) c.args.self.now c.pairs.ensures.rising)
+    (binding_filter (λ pair. not (list_any (λ v. v == pair.0) c.args.vars.now)) c.args.self.now
+    c.pairs.ensures.rising)

@@ -1,0 +1,4 @@
+//! Each built-in at its edges.
+mod kinds;
+mod numbers;
+mod strings;

@@ -1,0 +1,16 @@
+mod ArrangedLemmas
+mod ArrangesLemmas
+mod BranchesLemmas
+mod ConjunctsLemmas
+mod FittingLemmas
+mod GrowingLemmas
+mod InductionLemmas
+mod KeepingLemmas
+mod LeastLemmas
+mod ListLemmas
+mod LossLemmas
+mod MarksLemmas
+mod PieceLemmas
+mod ScopeLemmas
+mod StayingLemmas
+mod UnboundLemmas

@@ -1,0 +1,7 @@
+pub mod Arranging
+pub mod Branches
+pub mod Conjuncts
+pub mod Divisions
+pub mod Laws
+pub mod Marks
+pub mod Shapes

@@ -1,0 +1,31 @@
+//! The ready order: the conjuncts of a condition in an order in which each is ready in its turn.
+//!
+//! | File | Has | Its words |
+//! |---|---|---|
+//! | `flattening.rt` | the conjuncts of a formula | `specs/Conjuncts.antt` |
+//! | `branching.rt` | whether a formula has too many branches | `specs/Branches.antt` |
+//! | `arranging.rt` | conjuncts in order, the first that is ready taken again and again | `specs/Arranging.antt` |
+//! | `division.rt` | `Division`: what was taken and what is left | `specs/Divisions.antt` |
+//! | `laws.rt` | laws of the ready order, with empty bodies | `specs/Laws.antt`, `specs/Shapes.antt` |
+//!
+//! Begin at `arrange`.
+#![tactic(auto)]
+
+mod arranging;
+mod branching;
+mod division;
+mod flattening;
+mod laws;
+mod progress;
+mod readiness;
+mod variables;
+
+pub use arranging::{arrange, arrange_conjuncts};
+pub use branching::too_many_branches;
+pub use division::Division;
+pub use flattening::conjuncts;
+pub use laws::{
+    arranged_is_ready, arranged_stays, arrangement_is_scoped, arrangement_is_taking,
+    arranging_grows, conjuncts_are_scoped, least_is_left, left_is_unbound, nothing_is_lost,
+    ready_is_arranged, taken_is_ready, taken_is_scoped,
+};

@@ -1,0 +1,4 @@
+mod LeastLemmas
+mod MadeLemmas
+mod RulesLemmas
+mod SafeLemmas

@@ -1,0 +1,24 @@
+-- What is made of a rule, step by step.
+use Rattle.std.proofs.Common.{◌≡◌, ◌∙◌, ℕ, ℤ, false, Err, if◌then◌else◌, sym, ap, subst}
+use Rattle.std.specs.declared.result.Result.{Result}
+use Rattle.rif_refusals.specs.declared.fault.Fault.{Fault}
+use Rattle.rif_refusals.specs.declared.refusal.Refusal.{Refusal}
+use Rattle.rif_refusals.specs.declared.refusal.Refusal.TheVariants.{TooManyBranches}
+use Rattle.safe_rules.specs.declared.safe_rule.SafeRule.{SafeRule}
+use Rattle.rule_scopes.specs.declared.numbered_rule.NumberedRule.{NumberedRule}
+use Rattle.ready_order.specs.Arranging.{Arrangement, arrangement_of}
+use Rattle.ready_order.specs.Branches.{has_too_many_branches}
+use Rattle.rif_safe.specs.Safeness.{IsMade, arranged_rule, scoped_rule}
+
+-- what is the same is made by the same call
+pub made_as : (made other : Result SafeRule Refusal) (result : Result SafeRule Fault) → made ≡ other
+    → IsMade other result → IsMade made result
+made_as made other result same is = subst (λ (one : Result SafeRule Refusal). IsMade one result) (sym same) is
+
+pub scoped_as : (number : ℕ) (priority : ℤ) (rule : NumberedRule) (a : Arrangement)
+    → has_too_many_branches rule.condition ≡ false → a ≡ arrangement_of rule.condition
+    → scoped_rule number priority rule ≡ arranged_rule number priority rule a
+scoped_as number priority rule a few is =
+    ap (λ many. if many then Err (TooManyBranches number)
+    else arranged_rule number priority rule (arrangement_of rule.condition)) few
+    ∙ ap (arranged_rule number priority rule) (sym is)

@@ -1,7 +1,0 @@
-use Rattle.std.proofs.Common.{◌≡◌, ◌++◌, drop}
-use Rattle.rif_script.specs.Simple.{are_distinct, declared_vars}
-use Rattle.rif_script.proofs.simple_rule.are_new.Given as goal
-
-abbrev pub invariant-loop-at : goal.invariant-loop-at
-invariant-loop-at l =
-    are_distinct (drop l.at l.vars ++ declared_vars l.later) ≡ are_distinct (l.vars ++ declared_vars l.later)

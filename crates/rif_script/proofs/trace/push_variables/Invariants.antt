@@ -1,7 +1,0 @@
-use Rattle.std.proofs.Common.{◌≡◌, ◌++◌, take, flat_map}
-use Rattle.rif_script.specs.Trace.{text_of_variable}
-use Rattle.rif_script.proofs.trace.push_variables.Given as goal
-
-abbrev pub invariant-loop-var : goal.invariant-loop-var
-invariant-loop-var l =
-    l.out.items ≡ l.fn.out.items ++ flat_map (text_of_variable l.rule l.row) (take l.var-index l.vars)

@@ -1,0 +1,10 @@
+pub mod BelowLemmas
+pub mod BlockNumberLemmas
+pub mod CallerLemmas
+pub mod FineLemmas
+pub mod FormulaNumberLemmas
+pub mod NumberingLemmas
+pub mod OccurrenceLemmas
+pub mod OrderLemmas
+pub mod RuleNumberLemmas
+pub mod TermNumberLemmas

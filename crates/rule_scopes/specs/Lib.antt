@@ -1,0 +1,4 @@
+pub mod Laws
+pub mod Mentions
+pub mod Numbering
+pub mod Occurrences

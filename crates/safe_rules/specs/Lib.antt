@@ -1,0 +1,4 @@
+pub mod BlockScope
+pub mod Named
+pub mod Numbers
+pub mod SafeRules
