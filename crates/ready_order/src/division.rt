@@ -4,8 +4,8 @@ ghost use Rattle.rif_tree.specs.Variables.{without};
 ghost use Rattle.ready_order.specs.Arranging.{least_of, least_unbound, least_with};
 ghost use Rattle.ready_order.specs.Divisions.{arrangement_told};
 
-use crate::variables::{has_variable, push_each_occurring};
-use rif_tree::Formula;
+use crate::variables::push_each_occurring;
+use rif_tree::{Formula, has_variable};
 use rif_values::OutOfMemory;
 use sqlite_items::Items;
 use std::alloc::Global;

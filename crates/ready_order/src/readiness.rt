@@ -4,8 +4,8 @@ ghost use Rattle.std.specs.List.{flat_map};
 ghost use Rattle.rif_tree.specs.Ready.{pattern_ready, equal_ready, slots_ready, is_unbound_variable};
 ghost use Rattle.rif_tree.specs.Variables.{variables_of, called_variables_of, has_all};
 
-use crate::variables::{has_all, has_variable, push_both, push_each_variables, push_variables};
-use rif_tree::Term;
+use crate::variables::{has_all, push_both, push_each_variables, push_variables};
+use rif_tree::{Term, has_variable};
 use rif_values::OutOfMemory;
 use std::alloc::Global;
 

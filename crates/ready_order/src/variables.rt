@@ -1,19 +1,12 @@
 //! The variables of terms and formulas, as lists in order of occurrence, with repeats.
 ghost use Rattle.std.specs.Prelude.{◌≡◌, ◌++◌, [], ◌∷◌, map, OnOk, if◌then◌else◌};
 ghost use Rattle.std.specs.List.{flat_map};
-ghost use Rattle.rif_tree.specs.Variables.{has_variable, has_all, without, variables_of, slots_free};
+ghost use Rattle.rif_tree.specs.Variables.{has_all, without, variables_of, slots_free};
 ghost use Rattle.ready_order.specs.Arranging.{piece_of, free_in_pieces, occurring_in_pieces};
 
-use rif_tree::{Formula, Term};
+use rif_tree::{Formula, Term, has_variable};
 use rif_values::OutOfMemory;
 use std::alloc::Global;
-
-/// Whether a variable is among some.
-pub(crate) fn has_variable(vars: &[u32], var: u32) -> bool
-    ensures { result ≡ has_variable vars.now var }
-{
-    vars.iter().any(|found| *found == var)
-}
 
 /// Whether each of these variables is among some.
 pub(crate) fn has_all(vars: &[u32], wanted: &[u32]) -> bool

@@ -1,7 +1,7 @@
 //! Rules made safe, or refused.
 ghost use Rattle.std.specs.Prelude.{◌≡◌, IfOk};
 ghost use Rattle.rif_tree.specs.Rules.{name_of};
-ghost use Rattle.rif_tree.specs.Variables.{has_variable, without};
+ghost use Rattle.rif_tree.specs.Variables.{without};
 ghost use Rattle.ready_order.specs.Arranging.{least_of};
 ghost use Rattle.rif_refusals.specs.declared.fault.Fault.TheVariants.{Refused};
 ghost use Rattle.rif_refusals.specs.declared.refusal.Refusal.TheVariants.{DeclaredTwice, TooManyBranches};
@@ -16,7 +16,7 @@ ghost use Rattle.rif_safe.specs.Safeness.{unsafe_variable};
 
 use ready_order::{Division, arrange, too_many_branches};
 use rif_refusals::{Fault, Refusal};
-use rif_tree::{Formula, Rule};
+use rif_tree::{Formula, Rule, has_variable};
 use rif_values::{OutOfMemory, Text};
 use rule_scopes::{NumberedRule, number, repeated, undeclared};
 use safe_rules::SafeRule;
@@ -128,12 +128,6 @@ fn least_outside(count: u32, bound: &[u32]) -> Option<u32>
         }
     }
     None
-}
-
-fn has_variable(vars: &[u32], var: u32) -> bool
-    ensures { result ≡ has_variable vars.now var }
-{
-    vars.iter().any(|found| *found == var)
 }
 
 // The name of a variable, and no text where it has none.

@@ -8,7 +8,7 @@ pub use rif_refusals::{Counted, Fault, Refusal, limits, limits_are_the_stated_on
 pub use rif_sets::{find_in_set, set_laws, sorted_set};
 pub use rif_tree::{
     Action, Arity, Builtin, Decl, Doc, Formula, Func, KEYWORDS, Keyword, Level, Pred, Rule, Target,
-    Term, func_namespace, pred_namespace,
+    Term, func_namespace, has_variable, pred_namespace,
 };
 pub use rif_values::{
     Binding, Change, Const, Delta, Fact, GREATEST_INTEGER, Instance, Integer, LEAST_INTEGER,

@@ -7,6 +7,7 @@
 //! | `builtin.rt` | `Func`, `Pred`, `Builtin`: the built-ins; `Arity` | |
 //! | `builtin_names.rt` | their names and numbers of arguments | `specs/BuiltinNames.antt` |
 //! | `keyword.rt` | `Keyword`: the words that the grammar spells | `specs/Keywords.antt` |
+//! | `variables.rt` | `has_variable`: whether a variable is among some | `specs/Variables.antt` |
 //! | `copying.rt` | how a tree is copied: `CopyIn`, `copy_items` | |
 //! | `laws.rt` | laws of what is free, ready and in scope, and of names | `specs/Laws.antt` |
 //!
@@ -20,6 +21,7 @@ mod keyword;
 mod laws;
 mod rule;
 mod tree;
+mod variables;
 
 pub use builtin::{Arity, Builtin, Func, Pred};
 pub use builtin_names::{func_namespace, pred_namespace};
@@ -31,3 +33,4 @@ pub use laws::{
 };
 pub use rule::{Action, Decl, Doc, Rule, Target};
 pub use tree::{Formula, Level, Term};
+pub use variables::has_variable;

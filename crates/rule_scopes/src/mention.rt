@@ -2,10 +2,10 @@
 ghost use Rattle.std.specs.Prelude.{◌≡◌, ◌++◌, ◌∷◌, [], OnOk, Bool, false, true, Some, None};
 ghost use Rattle.std.specs.List.{find};
 ghost use Rattle.std.specs.Option.{option_map};
-ghost use Rattle.rif_tree.specs.Variables.{has_variable};
 ghost use Rattle.rule_scopes.specs.Mentions.{mention_of, mentions_of, used, told_undeclared, told_repeated};
 ghost use Rattle.rule_scopes.specs.Occurrences.{declared};
 
+use rif_tree::has_variable;
 use rif_values::OutOfMemory;
 
 /// A place where a variable stands in a rule.
@@ -17,12 +17,6 @@ pub struct Mention {
     pub declares: bool,
     /// Whether it holds there already.
     pub holds: bool,
-}
-
-fn has_variable(held: &[u32], var: u32) -> bool
-    ensures { result ≡ has_variable held.now var }
-{
-    held.iter().any(|one| *one == var)
 }
 
 /// Appends a declaration of a variable.
