@@ -2,6 +2,7 @@ mod ArrangedLemmas
 mod ArrangesLemmas
 mod BranchesLemmas
 mod ConjunctsLemmas
+mod FindingsLemmas
 mod FittingLemmas
 mod GrowingLemmas
 mod InductionLemmas
@@ -11,6 +12,7 @@ mod ListLemmas
 mod LossLemmas
 mod MarksLemmas
 mod PieceLemmas
+mod ProbingLemmas
 mod ScopeLemmas
 mod StayingLemmas
 mod UnboundLemmas

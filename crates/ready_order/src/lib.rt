@@ -14,8 +14,10 @@
 mod arranging;
 mod branching;
 mod division;
+mod findings;
 mod flattening;
 mod laws;
+mod probing;
 mod progress;
 mod readiness;
 mod variables;
