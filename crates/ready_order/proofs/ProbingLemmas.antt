@@ -2,8 +2,7 @@
 -- the others is, the `And` can't be arranged.
 use Rattle.std.proofs.Common.{◌≡◌, ℕ, zero, suc, ◌<◌, Bool, true, false, List, [], ◌∷◌, ◌++◌, length, Some, None}
 use Rattle.std.proofs.Common.{cond, map, ap, ◌∙◌, sym, refl, subst, arith, take, get_or, append_assoc, append-nil}
-use Rattle.std.proofs.lemmas.List.{map-append}
-use Rattle.std.specs.List.{list_all, flat_map}
+use Rattle.std.specs.List.{list_all}
 use Rattle.std.specs.Option.{option_map}
 use Rattle.std.specs.declared.option.Option.{Option}
 use Rattle.rif_tree.specs.declared.tree.Formula.{Formula}
@@ -105,7 +104,8 @@ all_ready : (bound held : List ℕ) (pieces : List Piece) → CanTake bound piec
 all_ready bound held pieces (done _) among grow all = tt
 all_ready bound held pieces (takes _ piece _ left at removes later) among grow all =
     let ready = removed_one IsGrowing piece pieces left removes grow bound held among at in
-    let more = among_append bound piece.free held among (removed_one (IsHeld held) piece pieces left removes all ready) in
+    let own = removed_one (IsHeld held) piece pieces left removes all ready in
+    let more = among_append bound piece.free held among own in
     removed_back (IsReadyAt held) piece pieces left removes ready
     (all_ready (bound ++ piece.free) held left later more (removed_other IsGrowing piece pieces left removes grow)
     (removed_other (IsHeld held) piece pieces left removes all))
@@ -118,13 +118,15 @@ each_held held (c ∷ cs) [] same among unready = let no : ⊥ = omega (arith, s
 each_held held (c ∷ cs) (true ∷ marks) same among unready =
     let rest : length marks ≡ length cs = omega (arith, same) in
     let vs = (piece_of c).free in
-    let ws = free_marked cs marks in
-    (λ ready v has. among v (among_front vs ws v has),
-    each_held held cs marks rest (λ v has. among v (among_back vs ws v has)) unready)
+    let ws = free_marked cs marks in (
+      λ ready v has. among v (among_front vs ws v has),
+      each_held held cs marks rest (λ v has. among v (among_back vs ws v has)) unready,
+    )
 each_held held (c ∷ cs) (false ∷ marks) same among unready =
-    let rest : length marks ≡ length cs = omega (arith, same) in
-    (λ ready. absurd (there_unready ((piece_of c).at held) ready unready.0),
-    each_held held cs marks rest among unready.1)
+    let rest : length marks ≡ length cs = omega (arith, same) in (
+      λ ready. absurd (there_unready ((piece_of c).at held) ready unready.0),
+      each_held held cs marks rest among unready.1,
+    )
 
 all_marked : (held : List ℕ) (cs : List Formula) (marks : List Bool) → length marks ≡ length cs
     → Each (IsReadyAt held) (map piece_of cs) → AreUnready held (pieces_left cs marks)

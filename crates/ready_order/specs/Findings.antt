@@ -4,7 +4,7 @@
 --     plain_ready bound f    whether a conjunct without formulas inside it is ready; no other is
 --     marked_of cs marks     the conjuncts that are marked
 -- Source: our own (docs/PROFILE.md, "Ready order").
-use Rattle.std.specs.Prelude.{ℕ, suc, Bool, true, false, List, [], ◌∷◌, ◌++◌, sum}
+use Rattle.std.specs.Prelude.{ℕ, suc, Bool, true, false, List, [], ◌∷◌, sum}
 use Rattle.rif_tree.specs.declared.tree.Formula.{Formula}
 use Rattle.rif_tree.specs.declared.tree.Formula.TheOpen.{Formula-F, And as AndLayer, Or as OrLayer, Not as NotLayer}
 use Rattle.rif_tree.specs.declared.tree.Formula.TheOpen.{Exists as ExistsLayer, Equal as EqualLayer}

@@ -22,7 +22,8 @@ use rif_values::OutOfMemory;
 use sqlite_items::{Boxed, Items};
 use std::alloc::Global;
 
-/// A condition's conjuncts, put into a ready order as far as that can be.
+/// A condition's conjuncts, put into a ready order as far as that can be, at the cost of `conjuncts` and
+/// `arrange_conjuncts`.
 pub fn arrange(alloc: Global, condition: &Formula) -> Result<Division, OutOfMemory>
     ensures { IfOk result (λ done. arrangement_told done ≡ arrangement_of condition.now) }
 {
@@ -32,6 +33,10 @@ pub fn arrange(alloc: Global, condition: &Formula) -> Result<Division, OutOfMemo
 
 /// Conjuncts put into a ready order as far as that can be, where no variable is bound before. They are what
 /// `conjuncts` answers, so that each is arranged within.
+///
+/// What can be arranged can be where more variables are bound. So a test that keeps what it found before tells which
+/// conjunct is ready, and each formula is arranged once. Of n formulas, at most d inside one another, there are at
+/// most d n n tests; each goes over its formula, and compares each variable in it with those bound or declared.
 pub fn arrange_conjuncts(alloc: Global, conjuncts: &[Formula]) -> Result<Division, OutOfMemory>
     ensures { IfOk result (λ done. arrangement_told done ≡ arrangement [] (map piece_of conjuncts.now)) }
 {

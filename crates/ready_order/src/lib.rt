@@ -5,10 +5,13 @@
 //! | `flattening.rt` | the conjuncts of a formula | `specs/Conjuncts.antt` |
 //! | `branching.rt` | whether a formula has too many branches | `specs/Branches.antt` |
 //! | `arranging.rt` | conjuncts in order, the first that is ready taken again and again | `specs/Arranging.antt` |
+//! | `probing.rt` | whether a formula may be arranged, so that no try is in vain | `specs/Findings.antt` |
+//! | `findings.rt` | `Findings`: what such tests have found | `specs/Findings.antt` |
 //! | `division.rt` | `Division`: what was taken and what is left | `specs/Divisions.antt` |
 //! | `laws.rt` | laws of the ready order, with empty bodies | `specs/Laws.antt`, `specs/Shapes.antt` |
 //!
-//! Begin at `arrange`.
+//! Begin at `arrange`. It takes polynomial time, however deep `Exists` and `Or` stand inside one another;
+//! `probing.rt` says why.
 #![tactic(auto)]
 
 mod arranging;

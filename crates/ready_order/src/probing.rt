@@ -1,9 +1,9 @@
-//! Whether a formula may be arranged: a test that comes before each try of it, so that no try is in vain.
+//! Whether a formula may be arranged: a test that comes before each try, so that none is in vain.
 //!
-//! It rests on the law that what can be arranged can be where more variables are bound: a member of an `And` that was
-//! found ready stays ready while the formulas around it are tried for more and more that is bound. So `Findings` keeps
-//! what was found, and no member is found ready twice. Whatever the findings are, a test that says no is right; where
-//! they are wrong, one may say yes too often.
+//! It rests on the law that what can be arranged can be where more variables are bound. A member of an `And` that was
+//! found ready stays so while the formulas around it are tested for more and more that is bound: `Findings` keeps
+//! that, and it isn't found again. Whatever the findings are, an answer no is right; where they were wrong, an answer
+//! yes could cost a try in vain.
 ghost use Rattle.std.specs.Prelude.{◌≡◌, ◌++◌, false, map, length, Some, None, IfOk, IfSome, OnOk, [], if◌then◌else◌};
 ghost use Rattle.std.specs.Option.{option_map};
 ghost use Rattle.rif_tree.specs.Variables.{has_all};
@@ -22,9 +22,12 @@ use rif_values::OutOfMemory;
 use sqlite_items::Items;
 use std::alloc::Global;
 
-/// Whether a formula may be arranged for what is bound; where the answer is no, it can't be. The findings are of a
-/// list in which it begins at this place. Over all calls for one list, while more and more is bound, a formula inside
-/// another is tested at most once for each call from outside and each member that its lists have.
+/// Whether a formula may be arranged for what is bound: where the answer is no, it can't be. Its places among the
+/// findings begin at `start`.
+///
+/// Where a formula is tested again and again, for more and more that is bound, a formula inside it is tested as
+/// often, and at most once more for each member of the `And`s around that one. A test goes over its formula, and
+/// compares each variable in it with those bound or declared.
 #[cycle(probed)]
 #[tactic(auto, using(crate::proofs::ProbingLemmas::and_may, crate::proofs::ProbingLemmas::or_may))]
 pub(crate) fn may_be_arranged(
@@ -43,7 +46,14 @@ pub(crate) fn may_be_arranged(
         }
         Formula::Or(branches) => {
             let all = free_in_each(alloc, branches.as_slice())?;
-            may_each_be_arranged(alloc, findings, inside, bound, all.as_slice(), branches.as_slice())
+            may_each_be_arranged(
+                alloc,
+                findings,
+                inside,
+                bound,
+                all.as_slice(),
+                branches.as_slice(),
+            )
         }
         Formula::Not(inner) => may_be_negated(alloc, findings, inside, bound, inner.get()),
         Formula::Exists(_, inner) => may_be_arranged(alloc, findings, inside, bound, inner.get()),
@@ -67,7 +77,7 @@ fn may_all_be_taken(
     ensures { IfOk result (λ may. may ≡ false → members_at bound.now (map piece_of members.now) ≡ None) }
 {
     for _turn in 0..members.len() {
-        let outcome = found_at_last(alloc, findings, start, bound, members)?;
+        let outcome = find_one_more(alloc, findings, start, bound, members)?;
         match outcome {
             None => {}
             Some(are_all_found) => return Ok(are_all_found),
@@ -76,10 +86,10 @@ fn may_all_be_taken(
     Ok(true)
 }
 
-// Finds one more member of an `And` that may be taken behind those found before. Where there is none, whether all are
-// found.
+// Finds one more member of an `And` that may be taken behind those found before, and answers nothing then. Where
+// there is none, whether all are found.
 #[cycle(probed)]
-fn found_at_last(
+fn find_one_more(
     alloc: Global,
     findings: &mut Findings,
     start: usize,
@@ -93,7 +103,14 @@ fn found_at_last(
     readiness_grows();
     let is_found = found_before(alloc, findings, start, members)?;
     let held = held_behind(alloc, bound, members, is_found.as_slice())?;
-    let outcome = next_found(alloc, findings, start, held.as_slice(), members, is_found.as_slice())?;
+    let outcome = next_found(
+        alloc,
+        findings,
+        start,
+        held.as_slice(),
+        members,
+        is_found.as_slice(),
+    )?;
     match outcome {
         None => Ok(Some(are_all(is_found.as_slice()))),
         Some(place) => {

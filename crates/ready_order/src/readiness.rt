@@ -32,11 +32,7 @@ pub(crate) fn is_plain_ready(
 }
 
 // Whether all variables inside the function terms of a pattern's terms are bound.
-fn is_pattern_ready(
-    alloc: Global,
-    bound: &[u32],
-    terms: &[Term],
-) -> Result<bool, OutOfMemory>
+fn is_pattern_ready(alloc: Global, bound: &[u32], terms: &[Term]) -> Result<bool, OutOfMemory>
     ensures { IfOk result (λ ready. ready ≡ pattern_ready bound.now terms.now) }
 {
     for term in terms {
@@ -113,11 +109,7 @@ fn is_equal_ready(
 }
 
 // Whether all variables of a predicate's arguments are bound.
-fn are_all_bound(
-    alloc: Global,
-    bound: &[u32],
-    terms: &[Term],
-) -> Result<bool, OutOfMemory>
+fn are_all_bound(alloc: Global, bound: &[u32], terms: &[Term]) -> Result<bool, OutOfMemory>
     ensures { IfOk result (λ all. all ≡ has_all bound.now (flat_map variables_of terms.now)) }
 {
     let mut vars = Vec::new(alloc);

@@ -150,7 +150,11 @@ pub(crate) fn free_in_each(alloc: Global, formulas: &[Formula]) -> Result<Items<
 }
 
 /// Whether all free variables of a formula are bound.
-pub(crate) fn is_closed(alloc: Global, bound: &[u32], formula: &Formula) -> Result<bool, OutOfMemory>
+pub(crate) fn is_closed(
+    alloc: Global,
+    bound: &[u32],
+    formula: &Formula,
+) -> Result<bool, OutOfMemory>
     ensures { IfOk result (λ closed. closed ≡ has_all bound.now (piece_of formula.now).free) }
 {
     let free = free_in(alloc, formula)?;

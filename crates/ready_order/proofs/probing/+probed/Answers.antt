@@ -1,4 +1,4 @@
-use Rattle.std.proofs.Common.{rules, ◌≡◌, ◌∙◌, ◌++◌, true, false, List, Bool, None, map, refl, sym, get_or, ap, add-one}
+use Rattle.std.proofs.Common.{rules, ◌≡◌, ◌∙◌, ◌++◌, false, None, map, sym, get_or, ap, add-one}
 use Rattle.std.specs.List.{list_all}
 use Rattle.rif_tree.specs.declared.tree.Formula.{Formula}
 use Rattle.ready_order.specs.Arranging.{arranged, branch_at, piece_of, first_ready, free_in_pieces}
@@ -8,8 +8,8 @@ use Rattle.ready_order.proofs.MarksLemmas.{none_yet}
 use Rattle.ready_order.proofs.ProbingLemmas.{members_stuck, branch_missing}
 use Rattle.ready_order.proofs.probing.+probed.Goals as goal
 
-pub found_at_last-returns-in-None : goal.found_at_last-returns-in-None
-found_at_last-returns-in-None t c is_not =
+pub find_one_more-returns-in-None : goal.find_one_more-returns-in-None
+find_one_more-returns-in-None t c is_not =
     let bound = c.args.bound.now in
     let cs = c.args.members.now in
     let marks = c.in_ok-is_found.is_found in

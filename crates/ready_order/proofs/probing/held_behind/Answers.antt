@@ -1,4 +1,4 @@
-use Rattle.std.proofs.Common.{◌++◌, ◌∙◌, ℕ, List, false, get_or, ap, add-one}
+use Rattle.std.proofs.Common.{◌++◌, ◌∙◌, false, get_or, ap, add-one}
 use Rattle.rif_tree.specs.declared.tree.Formula.{Formula}
 use Rattle.ready_order.proofs.ProbingLemmas.{held_next, free_where}
 use Rattle.ready_order.proofs.probing.held_behind.Goals as goal
