@@ -1,6 +1,7 @@
 mod ArrangedLemmas
 mod ArrangesLemmas
 mod BranchesLemmas
+mod ConditionLemmas
 mod ConjunctsLemmas
 mod FindingsLemmas
 mod FittingLemmas
@@ -8,6 +9,7 @@ mod GrowingLemmas
 mod InductionLemmas
 mod KeepingLemmas
 mod LeastLemmas
+mod LikenessLemmas
 mod ListLemmas
 mod LossLemmas
 mod MarksLemmas

@@ -1,6 +1,7 @@
 pub mod Arranging
 pub mod Branches
 pub mod Conjuncts
+pub mod Declarations
 pub mod Divisions
 pub mod Findings
 pub mod Laws
