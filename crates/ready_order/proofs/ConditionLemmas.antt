@@ -1,10 +1,10 @@
--- What is taken of a condition's conjuncts has the shape of arranged conditions, and declares what the condition does.
-use Rattle.std.proofs.Common.{◌≡◌, ℕ, Bool, true, ◌&&◌, List, [], ◌∷◌, ◌++◌, map, ap, ap₂, ◌∙◌, sym, refl}
+-- What is taken of a condition's conjuncts has the shape of arranged conditions, and declares what it declares.
+use Rattle.std.proofs.Common.{◌≡◌, true, ◌&&◌, List, [], ◌∷◌, ◌++◌, map, ap, ap₂, ◌∙◌, sym, refl}
 use Rattle.std.specs.List.{list_all, flat_map}
 use Rattle.std.proofs.lemmas.List.Folds.{list_all-append, list_all-map}
 use Rattle.rif_tree.specs.declared.tree.Term.{Term}
 use Rattle.rif_tree.specs.declared.tree.Formula.{Formula}
-use Rattle.rif_tree.specs.declared.tree.Formula.TheVariants.{And, Or, Not, Exists, Frame}
+use Rattle.rif_tree.specs.declared.tree.Formula.TheVariants.{And, Or, Not, Exists}
 use Rattle.rif_tree.proofs.CallerLemmas.{and_first}
 use Rattle.ready_order.specs.Arranging.{arrangement_of}
 use Rattle.ready_order.specs.Conjuncts.{conjuncts_of, slots_of}

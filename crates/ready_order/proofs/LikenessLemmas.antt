@@ -23,7 +23,7 @@ use Rattle.ready_order.specs.Laws.{Arranges, ends, takes}
 use Rattle.ready_order.specs.Shapes.{Shape, shape_of, conjunct_where}
 use Rattle.ready_order.proofs.ArrangesLemmas.{arrangement_arranges}
 use Rattle.ready_order.proofs.InductionLemmas.{EachPiece, IsClosed, each_piece}
-use Rattle.ready_order.proofs.ListLemmas.{has_taken, some_same, same_on, same_equal}
+use Rattle.ready_order.proofs.ListLemmas.{has_taken, some_same}
 use Rattle.ready_order.proofs.StayingLemmas.{shape_and, shape_or, shape_not, shape_exists}
 
 -- ---- formulas that are alike

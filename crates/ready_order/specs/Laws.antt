@@ -14,7 +14,7 @@
 --     IsNothingLost             a formula's conjuncts have the variables that it has: those free, and those that
 --                               occur. What is bound behind those taken, and what those left have free, are what it
 --                               has free; so where none is left, those taken have it
---     AreDeclarationsKept       where all of a condition's conjuncts are taken, they declare the variables that it does
+--     AreDeclarationsKept       where all of a condition's conjuncts are taken, they declare what it declares
 --     IsArrangementShaped       what is taken of a condition's conjuncts has the shape of arranged conditions
 --     IsLeftUnbound             where conjuncts are left, some variable occurs in them that isn't bound, so that
 --                               there is a least one

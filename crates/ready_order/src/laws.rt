@@ -49,8 +49,8 @@ pub fn nothing_is_lost()
     readiness_is_of_members();
 }
 
-/// Law: no declaration is lost, and none comes in: where none of a condition's conjuncts is left, those that are taken
-/// declare the variables that it declares.
+/// Law: no declaration is lost, and none comes in: where none of a condition's conjuncts is left, those that are
+/// taken declare the variables that it declares.
 pub fn declarations_are_kept()
     ensures { AreDeclarationsKept }
 {}

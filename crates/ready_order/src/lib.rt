@@ -8,7 +8,7 @@
 //! | `probing.rt` | whether a formula may be arranged, so that no try is in vain | `specs/Findings.antt` |
 //! | `findings.rt` | `Findings`: what such tests have found | `specs/Findings.antt` |
 //! | `division.rt` | `Division`: what was taken and what is left | `specs/Divisions.antt` |
-//! | `laws.rt` | laws of the ready order, with empty bodies | `specs/Laws.antt`, `specs/Declarations.antt`, `specs/Shapes.antt` |
+//! | `laws.rt` | laws of the ready order | `specs/Laws.antt`, `specs/Declarations.antt`, `specs/Shapes.antt` |
 //!
 //! Begin at `arrange`. It takes polynomial time, however deep `Exists` and `Or` stand inside one another;
 //! `probing.rt` says why.
