@@ -1,6 +1,6 @@
 -- What a test of a formula rules out: where members of an `And` are found ready one after the other, and then none of
 -- the others is, the `And` can't be arranged.
-use Rattle.std.proofs.Common.{◌≡◌, ℕ, zero, suc, ◌<◌, Bool, true, false, List, [], ◌∷◌, ◌++◌, length, Some, None}
+use Rattle.std.proofs.Common.{◌≡◌, ℕ, zero, suc, ◌<◌, Bool, true, false, List, [], ◌∷◌, ◌++◌, length, Some, None, ◌||◌}
 use Rattle.std.proofs.Common.{cond, map, ap, ◌∙◌, sym, refl, subst, arith, take, get_or, append_assoc, append-nil}
 use Rattle.std.specs.List.{list_all}
 use Rattle.std.specs.Option.{option_map}
@@ -19,6 +19,10 @@ use Rattle.ready_order.proofs.ArrangesLemmas.{none_unready}
 use Rattle.ready_order.proofs.GrowingLemmas.{IsGrowing, Removes, at_front, further, CanTake, done, take as takes}
 use Rattle.ready_order.proofs.GrowingLemmas.{removed_one, removed_other, there_can, formula_grows}
 use Rattle.ready_order.proofs.ListLemmas.{IsThere, there_unready, Each, each_formula}
+
+pub neither : (a b : Bool) → (a || b) ≡ false → (a ≡ false) × (b ≡ false)
+neither true b is = absurd (cc is)
+neither false b is = (refl, is)
 
 -- ---- at each form
 

@@ -1,10 +1,11 @@
 -- How the code tests whether a formula may be arranged, and remembers what it finds. No public clause cites this
 -- module.
 --     places_of f            how many places a formula takes: one, and those of the formulas inside it
+--     starts_of first fs     where the places of each of some formulas start, the first at `first`
 --     plain_ready bound f    whether a conjunct without formulas inside it is ready; no other is
 --     marked_of cs marks     the conjuncts that are marked
 -- Source: our own (docs/PROFILE.md, "Ready order").
-use Rattle.std.specs.Prelude.{ℕ, suc, Bool, true, false, List, [], ◌∷◌, sum}
+use Rattle.std.specs.Prelude.{ℕ, suc, ◌+◌, Bool, true, false, List, [], ◌∷◌, sum}
 use Rattle.rif_tree.specs.declared.tree.Formula.{Formula}
 use Rattle.rif_tree.specs.declared.tree.Formula.TheOpen.{Formula-F, And as AndLayer, Or as OrLayer, Not as NotLayer}
 use Rattle.rif_tree.specs.declared.tree.Formula.TheOpen.{Exists as ExistsLayer, Equal as EqualLayer}
@@ -28,6 +29,10 @@ places_step (HoldsLayer pred ts) = 1
 
 abbrev pub places_of : Formula → ℕ
 places_of = fold-Formula ℕ places_step
+
+abbrev pub starts_of : ℕ → List Formula → List ℕ
+starts_of first [] = []
+starts_of first (f ∷ fs) = first ∷ starts_of (first + places_of f) fs
 
 abbrev pub plain_step : Formula-F (List ℕ → Bool) → List ℕ → Bool
 plain_step (AndLayer members) bound = false

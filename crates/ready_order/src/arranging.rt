@@ -11,7 +11,7 @@ ghost use Rattle.ready_order.specs.Divisions.{arrangement_told};
 ghost use Rattle.ready_order.specs.Marks.{left_of, pieces_left, progress_told, taking_told, untaken};
 
 use crate::division::Division;
-use crate::findings::{Findings, place_after};
+use crate::findings::Findings;
 use crate::flattening::conjuncts;
 use crate::probing::may_be_arranged;
 use crate::progress::{Found, Progress, are_all};
@@ -121,10 +121,9 @@ fn next_ready(
         first_ready bound.now (pieces_left conjuncts.now is_taken.now)
         ≡ option_map (taking_told conjuncts.now is_taken.now) found) }
 {
-    let mut start = 0;
     for place in 0..conjuncts.len() {
         let conjunct = &conjuncts[place];
-        let outcome = tried(alloc, findings, start, bound, conjunct, is_taken[place])?;
+        let outcome = tried(alloc, findings, place, bound, conjunct, is_taken[place])?;
         match outcome {
             None => {}
             Some(taken) => {
@@ -136,7 +135,6 @@ fn next_ready(
                 }));
             }
         }
-        start = place_after(start, conjunct)?;
     }
     Ok(None)
 }
@@ -146,7 +144,7 @@ fn next_ready(
 fn tried(
     alloc: Global,
     findings: &mut Findings,
-    start: usize,
+    place: usize,
     bound: &[u32],
     conjunct: &Formula,
     is_taken: bool,
@@ -156,6 +154,7 @@ fn tried(
     if is_taken {
         return Ok(None);
     }
+    let start = findings.start_of(place);
     if may_be_arranged(alloc, findings, start, bound, conjunct)? {
         arranged(alloc, bound, conjunct)
     } else {

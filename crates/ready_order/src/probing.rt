@@ -65,7 +65,7 @@ pub(crate) fn may_be_arranged(
     }
 }
 
-// Whether the members of an `And` may all be taken. Each turn but the last finds one more of them.
+// Whether the members of an `And` may all be taken. Each turn but the last finds more of them.
 #[cycle(probed)]
 fn may_all_be_taken(
     alloc: Global,
@@ -77,7 +77,7 @@ fn may_all_be_taken(
     ensures { IfOk result (λ may. may ≡ false → members_at bound.now (map piece_of members.now) ≡ None) }
 {
     for _turn in 0..members.len() {
-        let outcome = find_one_more(alloc, findings, start, bound, members)?;
+        let outcome = find_more(alloc, findings, start, bound, members)?;
         match outcome {
             None => {}
             Some(are_all_found) => return Ok(are_all_found),
@@ -86,10 +86,10 @@ fn may_all_be_taken(
     Ok(true)
 }
 
-// Finds one more member of an `And` that may be taken behind those found before, and answers nothing then. Where
-// there is none, whether all are found.
+// Finds the members of an `And` that may be taken behind those found before, and answers nothing then. Where there is
+// none, whether all are found.
 #[cycle(probed)]
-fn find_one_more(
+fn find_more(
     alloc: Global,
     findings: &mut Findings,
     start: usize,
@@ -103,20 +103,17 @@ fn find_one_more(
     readiness_grows();
     let is_found = found_before(alloc, findings, start, members)?;
     let held = held_behind(alloc, bound, members, is_found.as_slice())?;
-    let outcome = next_found(
+    if are_more_found(
         alloc,
         findings,
         start,
         held.as_slice(),
         members,
         is_found.as_slice(),
-    )?;
-    match outcome {
-        None => Ok(Some(are_all(is_found.as_slice()))),
-        Some(place) => {
-            findings.mark(place);
-            Ok(None)
-        }
+    )? {
+        Ok(None)
+    } else {
+        Ok(Some(are_all(is_found.as_slice())))
     }
 }
 
@@ -171,33 +168,33 @@ fn push_free_where(
     Ok(())
 }
 
-// The place of the first member that isn't marked and may be arranged for what is held.
+// Finds the members that aren't marked and may be arranged for what is held, and answers whether there is one.
 #[cycle(probed)]
-fn next_found(
+fn are_more_found(
     alloc: Global,
     findings: &mut Findings,
     start: usize,
     held: &[u32],
     members: &[Formula],
     is_found: &[bool],
-) -> Result<Option<usize>, OutOfMemory>
+) -> Result<bool, OutOfMemory>
     requires marks { length is_found.now ≡ length members.now }
     ensures { IfOk result
-        (λ found. found ≡ None → first_ready held.now (pieces_left members.now is_found.now) ≡ None) }
+        (λ more. more ≡ false → first_ready held.now (pieces_left members.now is_found.now) ≡ None) }
 {
     let mut start = start;
+    let mut is_more = false;
     for place in 0..members.len() {
         let member = &members[place];
-        if may_be_found(alloc, findings, start, held, member, is_found[place])? {
-            return Ok(Some(start));
-        }
+        let is_one = is_one_more(alloc, findings, start, held, member, is_found[place])?;
+        is_more = is_more | is_one;
         start = place_after(start, member)?;
     }
-    Ok(None)
+    Ok(is_more)
 }
 
 #[cycle(probed)]
-fn may_be_found(
+fn is_one_more(
     alloc: Global,
     findings: &mut Findings,
     start: usize,
@@ -208,10 +205,11 @@ fn may_be_found(
     ensures { IfOk result (λ may. may ≡ false → untaken is_found (arranged held.now member.now) ≡ None) }
 {
     if is_found {
-        Ok(false)
-    } else {
-        may_be_arranged(alloc, findings, start, held, member)
+        return Ok(false);
     }
+    let may = may_be_arranged(alloc, findings, start, held, member)?;
+    findings.tell(start, may);
+    Ok(may)
 }
 
 // Whether each branch of an `Or` may be arranged and then binds, or finds bound, all these variables.
