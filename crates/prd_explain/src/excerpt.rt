@@ -1,6 +1,7 @@
 //! Parts of a text, as they stand in a line for people.
 ghost use Rattle.std.specs.Prelude.{◌≤◌, length};
 
+use itoa::Buffer;
 use rif_values::OutOfMemory;
 
 // How many characters of a text are shown.
@@ -8,6 +9,13 @@ const MOST_CHARACTERS: u64 = 40;
 
 // How many characters of a built-in's name are shown, which is enough for its IRI.
 const MOST_OF_NAME: u64 = 100;
+
+/// Puts a number at the end of `out`.
+pub(crate) fn push_number(out: &mut Vec<u8>, number: u64) -> Result<(), OutOfMemory> {
+    let mut text = Buffer::new();
+    out.extend_from_slice(text.format(number).as_bytes())?;
+    Ok(())
+}
 
 /// Puts a text between backquotes at the end of `out`, as `push_short` does.
 pub(crate) fn push_quoted(out: &mut Vec<u8>, text: &[u8]) -> Result<(), OutOfMemory> {
@@ -45,13 +53,32 @@ pub(crate) fn text_at(bytes: &[u8], line: u64, col: u64) -> &[u8] {
     &text[length_of(text, col.saturating_sub(1))..]
 }
 
-/// The text of a line, without the white space at its ends.
-pub(crate) fn line_at(bytes: &[u8], line: u64) -> &[u8] {
+/// The text of a line, without the white space at its end.
+pub(crate) fn line_of(bytes: &[u8], line: u64) -> &[u8] {
     let text = lines_from(bytes, line);
     match text.iter().position(|byte| *byte == b'\n') {
-        Some(end) => text[..end].trim_ascii(),
-        None => text.trim_ascii(),
+        Some(end) => text[..end].trim_ascii_end(),
+        None => text.trim_ascii_end(),
     }
+}
+
+/// The number of the last line of a text, and what it has.
+pub(crate) fn text_of_line(bytes: &[u8]) -> (u64, &[u8]) {
+    let mut line = 1u64;
+    let mut text = bytes;
+    for _ in 0..bytes.len() {
+        match text.iter().position(|byte| *byte == b'\n') {
+            Some(end) => text = &text[end + 1..],
+            None => return (line, text),
+        }
+        line = line.saturating_add(1);
+    }
+    (line, text)
+}
+
+/// How many characters a text has.
+pub(crate) fn count_of(text: &[u8]) -> u64 {
+    text.iter().filter(|byte| !is_continuation(**byte)).count() as u64
 }
 
 /// What of a text stands before the first bracket or white space behind its first character.
@@ -78,8 +105,8 @@ pub(crate) fn is_string_closed(text: &[u8]) -> bool {
     false
 }
 
-// How many bytes the first so many characters of a text have, or all where it has fewer.
-fn length_of(text: &[u8], characters: u64) -> usize
+/// How many bytes the first so many characters of a text have, or all where it has fewer.
+pub(crate) fn length_of(text: &[u8], characters: u64) -> usize
     ensures { result ≤ length text.now }
 {
     let mut left = characters;

@@ -1,5 +1,5 @@
 //! Refusals in words, beside those of docs/REFUSALS.md: what was found, and what could stand there.
-use crate::{explain, explain_line};
+use crate::{explain, explain_line, lines_of};
 use rif_lex::tokens;
 use rif_refusals::Refusal;
 use std::alloc::Global;
@@ -111,7 +111,8 @@ fn compare(
 ) -> Result<(), Fail> {
     let bytes = document.as_bytes();
     let found = tokens(alloc, bytes)?;
-    let text = String::from_utf8(explain(alloc, found.as_slice(), bytes, refusal)?)?;
+    let explanation = explain(alloc, found.as_slice(), bytes, refusal)?;
+    let text = String::from_utf8(lines_of(alloc, bytes, &explanation)?)?;
     let wanted = format!(in alloc; "{refusal}: {words}")?;
     assert_eq!(rt; text.as_str(), wanted.as_str());
     Ok(())
@@ -136,7 +137,8 @@ fn what_cannot_be_read_is_named(rt: HostRuntime) -> Result<(), Fail> {
     let refusal = Refusal::BadToken { line: 2, col: 3 };
     for (rest, words) in UNREADABLE {
         let input = format!(in alloc; "a\né {rest}")?;
-        let text = String::from_utf8(explain_line(alloc, input.as_bytes(), &refusal)?)?;
+        let explanation = explain_line(alloc, input.as_bytes(), &refusal)?;
+        let text = String::from_utf8(lines_of(alloc, input.as_bytes(), &explanation)?)?;
         let wanted = format!(in alloc; "{refusal}: found {words}")?;
         assert_eq!(rt; text.as_str(), wanted.as_str());
     }

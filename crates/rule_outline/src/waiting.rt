@@ -1,0 +1,158 @@
+//! What waits for which variables, where a condition can't be put in order.
+use ready_order::{Division, arrange_conjuncts, conjuncts};
+use rif_tree::{Formula, Rule, Term, has_variable};
+use rif_values::{Const, OutOfMemory, Text};
+use rule_scopes::{NumberedRule, number};
+use sqlite_items::Items;
+use std::alloc::Global;
+
+/// A conjunct of a condition that is never ready. Variables are numbers.
+#[derive(Drop)]
+pub struct Waiting {
+    /// Which of the condition's conjuncts it is, counted from 0.
+    pub conjunct: usize,
+    /// The variables without a value that it isn't ready without.
+    pub asked: Vec<u32>,
+    /// Its other variables without a value. Where none is asked, it is ready with one of these.
+    pub other: Vec<u32>,
+}
+
+/// A condition that can't be put in order, or doesn't bind a `Forall` variable. Variables are numbers.
+#[derive(Drop)]
+pub struct Unbound {
+    /// The variable that is told.
+    pub number: u32,
+    /// The name of each variable, at the place of its number.
+    pub names: Items<Text>,
+    pub waiting: Vec<Waiting>,
+}
+
+/// What isn't bound in the condition of a rule, each of whose variables holds where it stands; None where each is.
+/// Each of the condition's conjuncts is tried once for each of its variables that have no value.
+///
+/// Source: our own (docs/REFUSALS.md).
+pub fn unbound_of(alloc: Global, rule: &Rule) -> Result<Option<Unbound>, OutOfMemory> {
+    let numbered = number(alloc, rule)?;
+    let all = conjuncts(alloc, &numbered.condition)?;
+    let division = arrange_conjuncts(alloc, all.as_slice())?;
+    match variable_told(alloc, &numbered, &division)? {
+        Some(number) => {
+            let waiting = waiting_in(alloc, division.bound.as_slice(), all.as_slice())?;
+            let NumberedRule { names, .. } = numbered;
+            Ok(Some(Unbound {
+                number,
+                names,
+                waiting,
+            }))
+        }
+        None => Ok(None),
+    }
+}
+
+// The least variable that occurs in what is left and isn't bound; where nothing is left, of the `Forall` ones.
+fn variable_told(
+    alloc: Global,
+    rule: &NumberedRule,
+    division: &Division,
+) -> Result<Option<u32>, OutOfMemory> {
+    if division.left.as_slice().is_empty() {
+        let bound = division.bound.as_slice();
+        Ok((0..rule.head_vars).find(|var| !has_variable(bound, *var)))
+    } else {
+        division.least_unbound(alloc)
+    }
+}
+
+fn waiting_in(
+    alloc: Global,
+    bound: &[u32],
+    conjuncts: &[Formula],
+) -> Result<Vec<Waiting>, OutOfMemory> {
+    let mut all = Vec::new(alloc);
+    for (place, conjunct) in conjuncts.iter().enumerate() {
+        if !is_ready(alloc, bound, conjunct)? {
+            all.push(waiting_at(alloc, place, bound, conjunct)?)?;
+        }
+    }
+    Ok(all)
+}
+
+fn waiting_at(
+    alloc: Global,
+    place: usize,
+    bound: &[u32],
+    conjunct: &Formula,
+) -> Result<Waiting, OutOfMemory> {
+    let unbound = unbound_in(alloc, bound, conjunct)?;
+    let mut asked = Vec::new(alloc);
+    let mut other = Vec::new(alloc);
+    for var in unbound.as_slice() {
+        let rest = with_all_but(alloc, bound, unbound.as_slice(), *var)?;
+        if is_ready(alloc, rest.as_slice(), conjunct)? {
+            other.push(*var)?;
+        } else {
+            asked.push(*var)?;
+        }
+    }
+    Ok(Waiting {
+        conjunct: place,
+        asked,
+        other,
+    })
+}
+
+// What is bound, and all of some variables but one.
+fn with_all_but(
+    alloc: Global,
+    bound: &[u32],
+    vars: &[u32],
+    but: u32,
+) -> Result<Vec<u32>, OutOfMemory> {
+    let mut all = bound.to_vec(alloc)?;
+    for var in vars {
+        if *var != but {
+            all.push(*var)?;
+        }
+    }
+    Ok(all)
+}
+
+// Whether a conjunct is ready where these variables are bound: behind a pattern that binds them, nothing is left.
+fn is_ready(alloc: Global, bound: &[u32], conjunct: &Formula) -> Result<bool, OutOfMemory> {
+    let mut both = Vec::new(alloc);
+    both.push(pattern_of(alloc, bound)?)?;
+    both.push(conjunct.copy(alloc)?)?;
+    let division = arrange_conjuncts(alloc, both.as_slice())?;
+    Ok(division.left.as_slice().is_empty())
+}
+
+// A pattern that binds these variables.
+fn pattern_of(alloc: Global, vars: &[u32]) -> Result<Formula, OutOfMemory> {
+    let mut terms = Vec::new(alloc);
+    for var in vars {
+        terms.push(Term::Var(*var))?;
+    }
+    Ok(Formula::Atom(Const::Bool(true), Items::from_vec(terms)))
+}
+
+// The variables that occur in a conjunct and aren't bound, the least first.
+fn unbound_in(alloc: Global, bound: &[u32], conjunct: &Formula) -> Result<Vec<u32>, OutOfMemory> {
+    let mut found = Vec::new(alloc);
+    let mut left = Vec::new(alloc);
+    left.push(conjunct.copy(alloc)?)?;
+    let mut division = Division {
+        taken: Items::new(alloc),
+        left: Items::from_vec(left),
+        bound: Items::from_slice(alloc, bound)?,
+    };
+    for _ in 0..u32::MAX {
+        match division.least_unbound(alloc)? {
+            Some(var) => {
+                division.bound.push(var)?;
+                found.push(var)?;
+            }
+            None => return Ok(found),
+        }
+    }
+    Ok(found)
+}
