@@ -38,14 +38,22 @@ fn push_where(
     view: &RuleView<'_>,
     excess: &Excess,
 ) -> Result<(), OutOfMemory> {
-    let part = view.outline.parts.as_slice().get(excess.whole.part);
-    let words = match part {
-        Some(part) if part.form == Form::Not => ", the one inside this `Not`",
-        Some(part) if part.form == Form::Exists => ", the one inside this `Exists`",
-        _ => "",
+    let words = match view.outline.parts.as_slice().get(excess.whole.part) {
+        Some(part) => words_of(part.form, excess.is_joint),
+        None => "",
     };
     out.extend_from_slice(words.as_bytes())?;
     Ok(())
+}
+
+fn words_of(form: Form, is_joint: bool) -> &'static str {
+    match form {
+        Form::Not => ", inside this `Not`",
+        Form::Exists => ", inside this `Exists`",
+        _ if is_joint => ", all `such that` formulas and the `If` formula together",
+        Form::SuchThat => ", in this `such that` formula",
+        _ => "",
+    }
 }
 
 // The number of branches, and what it comes from.

@@ -21,6 +21,8 @@ pub struct Explanation {
     pub place: Option<Place>,
     pub sentence: Vec<u8>,
     pub related: Vec<Related>,
+    /// How many more places there are.
+    pub untold: u64,
     pub hint: Option<Vec<u8>>,
 }
 
@@ -31,14 +33,17 @@ impl Explanation {
             place,
             sentence,
             related: Vec::new(alloc),
+            untold: 0,
             hint: None,
         }
     }
 
-    /// Adds another place, up to eight of them.
+    /// Adds another place. Of more than eight, the number alone is kept.
     pub fn relate(&mut self, place: Place, words: Vec<u8>) -> Result<(), OutOfMemory> {
         if self.related.len() < MOST_RELATED {
             self.related.push(Related { place, words })?;
+        } else {
+            self.untold = self.untold.saturating_add(1);
         }
         Ok(())
     }

@@ -1,5 +1,5 @@
 //! The lines that tell people of a refusal.
-use crate::excerpt::line_of;
+use crate::excerpt::{line_of, push_number};
 use crate::explanation::Explanation;
 use crate::place::Place;
 use crate::window::{Window, push_carets, push_window, window_at};
@@ -30,11 +30,22 @@ pub fn lines_of(
         out.push(b'\n')?;
         push_told(&mut out, input, Some(related.place), related.words.as_slice())?;
     }
+    push_end(&mut out, explanation)?;
+    Ok(out)
+}
+
+// How many more places there are, and the hint.
+fn push_end(out: &mut Vec<u8>, explanation: &Explanation) -> Result<(), OutOfMemory> {
+    if 0 < explanation.untold {
+        out.extend_from_slice(b"\nand ")?;
+        push_number(out, explanation.untold)?;
+        out.extend_from_slice(b" more")?;
+    }
     if let Some(hint) = &explanation.hint {
         out.extend_from_slice(b"\nhint: ")?;
         out.extend_from_slice(hint.as_slice())?;
     }
-    Ok(out)
+    Ok(())
 }
 
 // Some words with their place before them and its line below.
@@ -57,12 +68,11 @@ fn push_told(
 
 /// The line and the column of a place; where the line as a whole is meant, the line alone.
 pub(crate) fn push_place(out: &mut Vec<u8>, place: Place) -> Result<(), OutOfMemory> {
-    let mut number = Buffer::new();
     out.extend_from_slice(b"line ")?;
-    out.extend_from_slice(number.format(place.line).as_bytes())?;
+    push_number(out, place.line)?;
     if !place.is_line {
         out.extend_from_slice(b", column ")?;
-        out.extend_from_slice(number.format(place.col).as_bytes())?;
+        push_number(out, place.col)?;
     }
     Ok(())
 }

@@ -1,6 +1,7 @@
 //! Variables that are used where they don't hold, or declared where they do, in words.
 use crate::explanation::Explanation;
 use crate::nearest::nearest_to;
+use crate::place::Place;
 use crate::printing::push_place;
 use crate::rule_view::{RuleView, push_variable};
 use rif_values::OutOfMemory;
@@ -92,7 +93,7 @@ pub fn explain_repeated(
     };
     let mut explanation = Explanation::new(alloc, view.place_of_mention(at), sentence);
     if let Some(place) = place_of_first(view, at) {
-        let words = b"it is declared here already, and holds from there on".to_vec(alloc)?;
+        let words = b"it is declared here first".to_vec(alloc)?;
         explanation.relate(place, words)?;
     }
     Ok(Some(explanation))
@@ -103,6 +104,6 @@ fn is_repeated(mention: &Mention) -> bool {
 }
 
 // The place of the declaration that holds at a mention.
-fn place_of_first(view: &RuleView<'_>, at: usize) -> Option<crate::place::Place> {
+fn place_of_first(view: &RuleView<'_>, at: usize) -> Option<Place> {
     view.place_of_mention(view.mention(at)?.held_by?)
 }

@@ -12,7 +12,6 @@ enum Standing {
     Nowhere,
     InActions,
     InNot,
-    InNotOfExists,
     Asked,
     InOr,
     InPattern,
@@ -30,8 +29,11 @@ pub fn hint_of_unbound(
     match giver(unbound) {
         Some(waiting) => push_giver(&mut words, view, unbound, waiting)?,
         None => {
-            let standing = standing_of(view.outline.mentions.as_slice(), declaration);
+            let mentions = view.outline.mentions.as_slice();
+            let standing = standing_of(mentions, declaration);
             words.extend_from_slice(words_of(standing).as_bytes())?;
+            let way = way_out(standing, is_of_exists(mentions, declaration));
+            words.extend_from_slice(way.as_bytes())?;
         }
     }
     Ok(Some(words))
@@ -56,7 +58,7 @@ fn push_giver(
     unbound: &Unbound,
     waiting: &Waiting,
 ) -> Result<(), OutOfMemory> {
-    out.extend_from_slice(b" gets a value from the ")?;
+    out.extend_from_slice(b" gets its value from the ")?;
     if let Some(part) = conjunct_at(view, waiting.conjunct) {
         out.extend_from_slice(name_of_form(part.form).as_bytes())?;
         if let Some(place) = view.place(part.leaf) {
@@ -64,18 +66,16 @@ fn push_giver(
             push_place(out, place)?;
         }
     }
-    out.extend_from_slice(b" where there is one of ")?;
+    out.extend_from_slice(b", which waits for ")?;
     push_list(out, unbound, waiting.asked.as_slice(), b" and ")
 }
 
 fn standing_of(mentions: &[Mention], declaration: usize) -> Standing {
-    let uses = mentions.iter().filter(|one| one.is_use_of(declaration));
     let mut standing = Standing::Nowhere;
-    for one in uses {
-        standing = stronger(standing, standing_at(one));
-    }
-    if standing == Standing::InNot && is_of_exists(mentions, declaration) {
-        return Standing::InNotOfExists;
+    for one in mentions {
+        if one.is_use_of(declaration) {
+            standing = stronger(standing, standing_at(one));
+        }
     }
     standing
 }
@@ -115,7 +115,7 @@ fn rank_of(standing: Standing) -> u8 {
     match standing {
         Standing::Nowhere => 0,
         Standing::InActions => 1,
-        Standing::InNot | Standing::InNotOfExists => 2,
+        Standing::InNot => 2,
         Standing::Asked => 3,
         Standing::InOr => 4,
         Standing::InPattern => 5,
@@ -124,22 +124,23 @@ fn rank_of(standing: Standing) -> u8 {
 
 fn words_of(standing: Standing) -> &'static str {
     match standing {
-        Standing::Nowhere => " stands nowhere else in the rule; leave it out, or have it in a pattern",
-        Standing::InActions => " stands in the block alone; have it in a pattern of the condition",
-        Standing::InNot => {
-            " stands only inside `Not`, which gives no values; have it in a pattern outside, or declare it by \
-             `Exists` inside"
-        }
-        Standing::InNotOfExists => {
-            " stands only inside `Not`, which gives no values; have it in a pattern outside the `Not`"
-        }
-        Standing::Asked => {
-            " stands only in built-ins' calls and equations, which ask for its value; have it in a pattern"
-        }
-        Standing::InOr => {
-            " stands inside `Or`, and not each branch gives it a value; have it in a pattern of each branch, or \
-             outside"
-        }
-        Standing::InPattern => " stands in patterns that wait; have it in one that waits for nothing",
+        Standing::Nowhere => " stands nowhere else in the rule",
+        Standing::InActions => " stands in the block alone",
+        Standing::InNot => " stands only inside `Not`, which gives no values",
+        Standing::Asked => " stands only in built-ins' calls and equations, which ask for its value",
+        Standing::InOr => " stands inside `Or`, and not each branch gives it a value",
+        Standing::InPattern => " stands in patterns that wait",
+    }
+}
+
+// What to do about it.
+fn way_out(standing: Standing, is_of_exists: bool) -> &'static str {
+    match standing {
+        Standing::Nowhere => "; leave it out, or have it in a pattern of the condition",
+        Standing::InActions => "; have it in a pattern of the condition",
+        Standing::InOr => "; have it in a pattern of each branch, or outside",
+        _ if is_of_exists => "; have it in a pattern of its `Exists`",
+        Standing::InNot => "; have it in a pattern outside, or declare it by `Exists` inside",
+        _ => "; have it in a pattern of the condition",
     }
 }

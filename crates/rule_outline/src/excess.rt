@@ -17,8 +17,11 @@ pub struct Share {
 /// What has too many branches: the condition of a rule, or what stands inside a `Not` or an `Exists`.
 #[derive(Drop)]
 pub struct Excess {
-    /// Which part it stands in, and how many branches it has.
+    /// Which part it is: the `Not` or the `Exists`, or of the condition the first formula that has several branches;
+    /// and how many branches it has.
     pub whole: Share,
+    /// Whether several formulas of the condition have branches, which are multiplied.
+    pub is_joint: bool,
     /// Each `Or` whose branches multiply; or where there is one alone, each of its branches.
     pub shares: Vec<Share>,
     /// Whether the numbers of the shares are summed, and not multiplied.
@@ -32,22 +35,53 @@ pub struct Excess {
 pub fn excess_of(alloc: Global, outline: &Outline) -> Result<Option<Excess>, OutOfMemory> {
     let parts = outline.parts.as_slice();
     let counts = outline.branches(alloc)?;
-    let branches = counts.as_slice();
-    match first_over(parts, branches) {
-        Some(place) => {
-            let factors = factors_in(alloc, parts, branches, place)?;
-            let alone = single(factors.as_slice());
-            let shares = match alone {
-                Some(one) => members_of(alloc, parts, branches, one)?,
-                None => factors,
-            };
-            Ok(Some(Excess {
-                whole: share_at(branches, place),
-                shares,
-                is_sum: alone.is_some(),
-            }))
-        }
+    match first_over(parts, counts.as_slice()) {
+        Some(place) => Ok(Some(excess_at(alloc, parts, counts.as_slice(), place)?)),
         None => Ok(None),
+    }
+}
+
+fn excess_at(
+    alloc: Global,
+    parts: &[Part],
+    branches: &[u64],
+    place: usize,
+) -> Result<Excess, OutOfMemory> {
+    let factors = factors_in(alloc, parts, branches, place)?;
+    let alone = single(factors.as_slice());
+    let shares = match alone {
+        Some(one) => members_of(alloc, parts, branches, one)?,
+        None => factors,
+    };
+    let (part, is_joint) = told_at(parts, branches, place);
+    Ok(Excess {
+        whole: Share {
+            part,
+            branches: share_at(branches, place).branches,
+        },
+        is_joint,
+        shares,
+        is_sum: alone.is_some(),
+    })
+}
+
+// Of the condition, the first formula with several branches, and whether there is another one.
+fn told_at(parts: &[Part], branches: &[u64], place: usize) -> (usize, bool) {
+    if place != 0 {
+        return (place, false);
+    }
+    let mut tops = (1..parts.len()).filter(|at| has_branches(parts, branches, *at));
+    match tops.next() {
+        Some(first) => (first, tops.next().is_some()),
+        None => (0, false),
+    }
+}
+
+// Whether a part is one of the condition's formulas and has several branches.
+fn has_branches(parts: &[Part], branches: &[u64], place: usize) -> bool {
+    match (parts.get(place), branches.get(place)) {
+        (Some(part), Some(count)) => part.parent == 0 && 1 < *count,
+        _ => false,
     }
 }
 
