@@ -23,7 +23,7 @@ pub struct Unbound {
     /// The variable that is told.
     pub number: u32,
     /// The name of each variable, at the place of its number.
-    pub names: Items<Text>,
+    pub names: Vec<Text>,
     pub waiting: Vec<Waiting>,
 }
 
@@ -33,20 +33,36 @@ pub struct Unbound {
 /// Source: our own (docs/REFUSALS.md).
 pub fn unbound_of(alloc: Global, rule: &Rule) -> Result<Option<Unbound>, OutOfMemory> {
     let numbered = number(alloc, rule)?;
-    let all = conjuncts(alloc, &numbered.condition)?;
-    let division = arrange_conjuncts(alloc, all.as_slice())?;
-    match variable_told(alloc, &numbered, &division)? {
-        Some(number) => {
-            let waiting = waiting_in(alloc, division.bound.as_slice(), all.as_slice())?;
-            let NumberedRule { names, .. } = numbered;
-            Ok(Some(Unbound {
-                number,
-                names,
-                waiting,
-            }))
-        }
+    unbound_in_rule(alloc, &numbered)
+}
+
+fn unbound_in_rule(alloc: Global, rule: &NumberedRule) -> Result<Option<Unbound>, OutOfMemory> {
+    let all = conjuncts(alloc, &rule.condition)?;
+    unbound_among(alloc, rule, all.as_slice())
+}
+
+fn unbound_among(
+    alloc: Global,
+    rule: &NumberedRule,
+    conjuncts: &[Formula],
+) -> Result<Option<Unbound>, OutOfMemory> {
+    let division = arrange_conjuncts(alloc, conjuncts)?;
+    match variable_told(alloc, rule, &division)? {
+        Some(number) => Ok(Some(Unbound {
+            number,
+            names: copies_of(alloc, rule.names.as_slice())?,
+            waiting: waiting_in(alloc, division.bound.as_slice(), conjuncts)?,
+        })),
         None => Ok(None),
     }
+}
+
+fn copies_of(alloc: Global, names: &[Text]) -> Result<Vec<Text>, OutOfMemory> {
+    let mut copies = Vec::new(alloc);
+    for name in names {
+        copies.push(name.copy()?)?;
+    }
+    Ok(copies)
 }
 
 // The least variable that occurs in what is left and isn't bound; where nothing is left, of the `Forall` ones.
