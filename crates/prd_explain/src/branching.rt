@@ -33,11 +33,7 @@ pub fn explain_branches(
 }
 
 // Where the condition stands that has too many.
-fn push_where(
-    out: &mut Vec<u8>,
-    view: &RuleView<'_>,
-    excess: &Excess,
-) -> Result<(), OutOfMemory> {
+fn push_where(out: &mut Vec<u8>, view: &RuleView<'_>, excess: &Excess) -> Result<(), OutOfMemory> {
     let words = match view.outline.parts.as_slice().get(excess.whole.part) {
         Some(part) => words_of(part.form, excess.is_joint),
         None => "",

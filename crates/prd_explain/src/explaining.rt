@@ -112,7 +112,11 @@ pub fn whole_text(alloc: Global, refusal: &Refusal) -> Result<Vec<u8>, OutOfMemo
 /// The same without the place, or the rule, that it begins with.
 pub fn sentence_of(alloc: Global, refusal: &Refusal) -> Result<Vec<u8>, OutOfMemory> {
     let text = whole_text(alloc, refusal)?;
-    Ok(behind_colon(text.as_slice()).trim_ascii_start().to_vec(alloc)?)
+    Ok(
+        behind_colon(text.as_slice())
+            .trim_ascii_start()
+            .to_vec(alloc)?,
+    )
 }
 
 // Which token stands at a place; behind all of them the end stands.

@@ -28,7 +28,12 @@ pub fn lines_of(
     )?;
     for related in explanation.related.as_slice() {
         out.push(b'\n')?;
-        push_told(&mut out, input, Some(related.place), related.words.as_slice())?;
+        push_told(
+            &mut out,
+            input,
+            Some(related.place),
+            related.words.as_slice(),
+        )?;
     }
     push_end(&mut out, explanation)?;
     Ok(out)

@@ -3,9 +3,9 @@ ghost use Rattle.std.specs.Prelude.{◌≡◌, Ok};
 ghost use Rattle.rif_lex.specs.Lexing.{lexed};
 
 use crate::branching::explain_branches;
+use crate::excerpt::push_number;
 use crate::explaining::{sentence_of, whole_text};
 use crate::explanation::Explanation;
-use crate::excerpt::push_number;
 use crate::rule_view::RuleView;
 use crate::scoping::{explain_repeated, explain_undeclared};
 use crate::unbound::explain_unbound;

@@ -20,7 +20,10 @@ pub fn explain_undeclared(
         return Ok(None);
     };
     let mut explanation = Explanation::new(alloc, view.place_of_mention(at), sentence);
-    match mentions.iter().position(|one| is_namesake(mentions, at, one)) {
+    match mentions
+        .iter()
+        .position(|one| is_namesake(mentions, at, one))
+    {
         Some(other) => relate_namesake(alloc, view, &mut explanation, other)?,
         None => explanation.hint = hint_of_nearest(alloc, view, at)?,
     }

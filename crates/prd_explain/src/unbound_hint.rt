@@ -25,7 +25,10 @@ pub fn hint_of_unbound(
     declaration: usize,
 ) -> Result<Option<Vec<u8>>, OutOfMemory> {
     let mut words = Vec::new(alloc);
-    push_variable(&mut words, name_in(unbound.names.as_slice(), unbound.number))?;
+    push_variable(
+        &mut words,
+        name_in(unbound.names.as_slice(), unbound.number),
+    )?;
     match giver(unbound) {
         Some(waiting) => push_giver(&mut words, view, unbound, waiting)?,
         None => {
@@ -127,7 +130,8 @@ fn words_of(standing: Standing) -> &'static str {
         Standing::Nowhere => " stands nowhere else in the rule",
         Standing::InActions => " stands in the block alone",
         Standing::InNot => " stands only inside `Not`, which gives no values",
-        Standing::Asked => " stands only in built-ins' calls and equations, which ask for its value",
+        Standing::Asked =>
+            " stands only in built-ins' calls and equations, which ask for its value",
         Standing::InOr => " stands inside `Or`, and not each branch gives it a value",
         Standing::InPattern => " stands in patterns that wait",
     }

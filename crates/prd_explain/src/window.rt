@@ -36,7 +36,9 @@ pub fn window_at(line: &[u8], place: Place) -> Window<'_> {
     Window {
         text,
         before: front,
-        width: place.width.min(count_of(text).saturating_sub(count_of(front))),
+        width: place
+            .width
+            .min(count_of(text).saturating_sub(count_of(front))),
         is_cut_before: 0 < skipped,
         is_cut_behind: text.len() < rest.len(),
         is_broken,

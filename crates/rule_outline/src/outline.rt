@@ -43,7 +43,9 @@ fn where_not_lost(walk: Walk<'_>) -> Option<Outline> {
         return None;
     }
     let Walk {
-        mentions, parts, ..
+        mentions,
+        parts,
+        ..
     } = walk;
     Some(Outline { mentions, parts })
 }

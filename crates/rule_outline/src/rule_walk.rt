@@ -1,5 +1,7 @@
 //! The walk through a rule, beside the leaves that spell it.
-use crate::formula_walk::{walk_declared, walk_formula, walk_pairs, walk_term, walk_terms, walk_two};
+use crate::formula_walk::{
+    walk_declared, walk_formula, walk_pairs, walk_term, walk_terms, walk_two,
+};
 use crate::mention::Declarer;
 use crate::part::Form;
 use crate::sign::Sign;

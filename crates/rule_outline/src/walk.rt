@@ -44,8 +44,12 @@ impl Around {
     fn inside(self, part: usize, form: Form) -> Around {
         Around {
             part,
-            nots: self.nots.saturating_add(if form == Form::Not { 1 } else { 0 }),
-            ors: self.ors.saturating_add(if form == Form::Or { 1 } else { 0 }),
+            nots: self
+                .nots
+                .saturating_add(if form == Form::Not { 1 } else { 0 }),
+            ors: self
+                .ors
+                .saturating_add(if form == Form::Or { 1 } else { 0 }),
             is_conjunct: self.is_conjunct && form.is_joined(),
             ..self
         }
@@ -183,12 +187,18 @@ impl<'a> Walk<'a> {
         let place = self.mentions.len();
         let leaf = self.pass(Sign::Variable);
         let held = innermost(self.held.as_slice(), var);
-        self.mentions.push(mention_at(var, leaf, declarer, held, around))?;
+        self.mentions
+            .push(mention_at(var, leaf, declarer, held, around))?;
         Ok(place)
     }
 
     /// A variable holds from here on.
-    pub fn hold(&mut self, var: u32, declaration: usize, around: Around) -> Result<(), OutOfMemory> {
+    pub fn hold(
+        &mut self,
+        var: u32,
+        declaration: usize,
+        around: Around,
+    ) -> Result<(), OutOfMemory> {
         let first = self.mentions.len();
         begin_reach(self.mentions.as_mut_slice(), declaration, first);
         self.held.push(Held {
