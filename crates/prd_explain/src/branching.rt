@@ -1,7 +1,6 @@
 //! Conditions with too many branches, in words.
-use crate::excerpt::push_number;
-use crate::explanation::Explanation;
 use crate::rule_view::RuleView;
+use refusal_lines::{Explanation, push_number};
 use rif_values::OutOfMemory;
 use rule_outline::{Excess, Form, Share, excess_of};
 use std::alloc::Global;

@@ -1,8 +1,8 @@
 //! Calls of built-ins with another number of arguments, in words.
-use crate::excerpt::{push_name, push_number};
 use crate::spot::Spot;
 use prd_grammar::{BuiltinName, Leaf};
 use prd_recognition::is_term;
+use refusal_lines::{push_name, push_number};
 use rif_tree::{Arity, Builtin};
 use rif_values::OutOfMemory;
 

@@ -5,18 +5,16 @@ ghost use Rattle.rif_lex.specs.Lexing.{lexed};
 
 use crate::brackets::bracket_open;
 use crate::calls::{call_at, push_call};
-use crate::excerpt::{line_of, push_quoted, text_at};
 use crate::expected::{push_expected, push_integers, push_types};
-use crate::explanation::Explanation;
 use crate::keywords::hint_of_keyword;
 use crate::limits::push_limit;
 use crate::names::{hint_of_builtin, hint_of_external};
-use crate::place::Place;
-use crate::spot::Spot;
+use crate::spot::{Spot, place_of_token};
 use crate::unreadable::push_unreadable;
 use prd_grammar::Leaf;
 use prd_leaves::{behind_colon, leaves, text_of};
 use prd_recognition::place_of_refusal;
+use refusal_lines::{Explanation, Place, line_of, push_quoted, text_at};
 use rif_lex::Token;
 use rif_refusals::Refusal;
 use rif_values::OutOfMemory;
@@ -58,7 +56,7 @@ fn explain_spot(
     end: Place,
 ) -> Result<Explanation, OutOfMemory> {
     let place = match spot.token() {
-        Some(token) => Place::of_token(spot.bytes, token),
+        Some(token) => place_of_token(spot.bytes, token),
         None => end,
     };
     let mut sentence = sentence_of(alloc, refusal)?;
@@ -183,7 +181,7 @@ fn relate_bracket(
             match bracket_open(spot) {
                 Some(open) => {
                     let words = b"this bracket isn't closed".to_vec(alloc)?;
-                    explanation.relate(Place::of_token(spot.bytes, open), words)
+                    explanation.relate(place_of_token(spot.bytes, open), words)
                 }
                 None => Ok(()),
             }

@@ -1,5 +1,5 @@
 //! Words that are keywords but for their case.
-use crate::excerpt::push_quoted;
+use refusal_lines::push_quoted;
 use rif_tree::{KEYWORDS, Keyword};
 use rif_values::OutOfMemory;
 use std::alloc::Global;

@@ -5,13 +5,11 @@
 //! |---|---|
 //! | `explaining.rt` | `explain`, `explain_line`: refusals of documents and of scripts |
 //! | `rules.rt` | `explain_rule`: refusals of rules |
-//! | `explanation.rt`, `place.rt` | `Explanation`: what is said, and places |
-//! | `printing.rt`, `window.rt` | `lines_of`: the lines that say it |
 //! | `spot.rt` | a place of a document, with what stands there and before it |
 //! | `expected.rt`, `wanted.rt` | what could stand at a place |
 //! | `brackets.rt`, `keywords.rt`, `names.rt` | what may be meant |
 //! | `calls.rt`, `limits.rt` | numbers of arguments, and limits |
-//! | `unreadable.rt`, `excerpt.rt` | where no token begins, and parts of a text |
+//! | `unreadable.rt` | where no token begins |
 //! | `rule_view.rt` | a rule, with where its parts stand |
 //! | `scoping.rt`, `nearest.rt` | variables that don't hold, or hold already, and names that are near |
 //! | `branching.rt` | conditions with too many branches |
@@ -21,16 +19,12 @@
 mod brackets;
 mod branching;
 mod calls;
-mod excerpt;
 mod expected;
 mod explaining;
-mod explanation;
 mod keywords;
 mod limits;
 mod names;
 mod nearest;
-mod place;
-mod printing;
 mod rule_view;
 mod rules;
 mod scoping;
@@ -41,10 +35,7 @@ mod unbound;
 mod unbound_hint;
 mod unreadable;
 mod wanted;
-mod window;
 
 pub use explaining::{explain, explain_line};
-pub use explanation::{Explanation, Related};
-pub use place::Place;
-pub use printing::lines_of;
+pub use refusal_lines::{Explanation, lines_of};
 pub use rules::explain_rule;

@@ -1,5 +1,5 @@
 //! Limits that are passed, in words.
-use crate::excerpt::push_number;
+use refusal_lines::push_number;
 use rif_refusals::Counted;
 use rif_refusals::limits::{MOST_ACTIONS, MOST_PATTERNS, MOST_RULES, MOST_VARIABLES};
 use rif_values::OutOfMemory;

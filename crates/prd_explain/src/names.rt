@@ -1,10 +1,10 @@
 //! Names of built-ins that stand where they can't, in words.
-use crate::excerpt::push_name;
 use crate::expected::wanted_behind;
 use crate::spot::Spot;
 use prd_grammar::Leaf;
 use prd_leaves::{Prefixes, behind_colon, inner};
 use prd_recognition::advance;
+use refusal_lines::push_name;
 use rif_lex::Kind;
 use rif_tree::{Builtin, Func, Pred};
 use rif_values::OutOfMemory;

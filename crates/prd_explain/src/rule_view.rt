@@ -1,6 +1,6 @@
 //! A rule of a document, with where its parts stand.
-use crate::excerpt::push_short;
-use crate::place::Place;
+use crate::spot::place_of_token;
+use refusal_lines::{Place, push_short};
 use rif_lex::Token;
 use rif_tree::Rule;
 use rif_values::{OutOfMemory, Text};
@@ -21,7 +21,7 @@ impl<'a> RuleView<'a> {
     /// The place of a leaf.
     pub fn place(&self, leaf: usize) -> Option<Place> {
         match self.tokens.get(leaf) {
-            Some(token) => Some(Place::of_token(self.bytes, token)),
+            Some(token) => Some(place_of_token(self.bytes, token)),
             None => None,
         }
     }

@@ -3,13 +3,12 @@ ghost use Rattle.std.specs.Prelude.{◌≡◌, Ok};
 ghost use Rattle.rif_lex.specs.Lexing.{lexed};
 
 use crate::branching::explain_branches;
-use crate::excerpt::push_number;
 use crate::explaining::{sentence_of, whole_text};
-use crate::explanation::Explanation;
 use crate::rule_view::RuleView;
 use crate::scoping::{explain_repeated, explain_undeclared};
 use crate::unbound::explain_unbound;
 use prd_leaves::leaves;
+use refusal_lines::{Explanation, push_number};
 use rif_lex::Token;
 use rif_refusals::Refusal;
 use rif_tree::Doc;

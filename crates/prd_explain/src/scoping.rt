@@ -1,9 +1,7 @@
 //! Variables that are used where they don't hold, or declared where they do, in words.
-use crate::explanation::Explanation;
 use crate::nearest::nearest_to;
-use crate::place::Place;
-use crate::printing::push_place;
 use crate::rule_view::{RuleView, push_variable};
+use refusal_lines::{Explanation, Place, push_place};
 use rif_values::OutOfMemory;
 use rule_outline::{Declarer, Mention};
 use std::alloc::Global;

@@ -1,7 +1,7 @@
 //! Variables that get no value, in words.
-use crate::explanation::Explanation;
 use crate::rule_view::{RuleView, name_in, push_variable};
 use crate::unbound_hint::hint_of_unbound;
+use refusal_lines::Explanation;
 use rif_values::OutOfMemory;
 use rule_outline::{Form, Mention, Part, Unbound, Waiting, unbound_of};
 use std::alloc::Global;

@@ -1,7 +1,7 @@
 //! What would give a variable its value, in words.
-use crate::printing::push_place;
 use crate::rule_view::{RuleView, name_in, push_variable};
 use crate::unbound::{conjunct_at, name_of_form, push_list};
+use refusal_lines::push_place;
 use rif_values::OutOfMemory;
 use rule_outline::{Declarer, Mention, Unbound, Waiting};
 use std::alloc::Global;

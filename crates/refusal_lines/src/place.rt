@@ -1,7 +1,5 @@
 //! Places of a text.
 use crate::excerpt::{count_of, line_of, text_of_line};
-use prd_leaves::text_of;
-use rif_lex::Token;
 
 /// A place of a text. Lines and columns are counted from 1, columns and widths in characters.
 #[derive(Clone, Copy, Debug)]
@@ -25,12 +23,12 @@ impl Place {
         }
     }
 
-    /// A token of a text.
-    pub fn of_token(bytes: &[u8], token: &Token) -> Place {
+    /// The place of a text that begins there and stands in that line.
+    pub fn of_text(line: u64, col: u64, text: &[u8]) -> Place {
         Place {
-            line: token.line,
-            col: token.col,
-            width: count_of(text_of(bytes, *token)),
+            line,
+            col,
+            width: count_of(text),
             is_line: false,
         }
     }

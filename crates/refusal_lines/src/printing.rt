@@ -72,7 +72,7 @@ fn push_told(
 }
 
 /// The line and the column of a place; where the line as a whole is meant, the line alone.
-pub(crate) fn push_place(out: &mut Vec<u8>, place: Place) -> Result<(), OutOfMemory> {
+pub fn push_place(out: &mut Vec<u8>, place: Place) -> Result<(), OutOfMemory> {
     out.extend_from_slice(b"line ")?;
     push_number(out, place.line)?;
     if !place.is_line {
