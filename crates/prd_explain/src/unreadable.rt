@@ -57,8 +57,6 @@ fn is_string_closed(text: &[u8]) -> bool {
     false
 }
 
-/
-
 // A bracket, or white space between tokens.
 fn is_break(byte: u8) -> bool {
     match byte {

@@ -81,7 +81,7 @@ pub fn count_of(text: &[u8]) -> u64 {
     text.iter().filter(|byte| !is_continuation(**byte)).count() as u64
 }
 
-// How many bytes the first so many characters of a text have, or all where it has fewer.
+/// How many bytes the first so many characters of a text have, or all where it has fewer.
 pub fn length_of(text: &[u8], characters: u64) -> usize
     ensures { result ≤ length text.now }
 {
