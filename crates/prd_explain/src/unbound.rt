@@ -23,6 +23,7 @@ pub fn explain_unbound(
     for waiting in unbound.waiting.as_slice() {
         relate_waiting(alloc, view, &mut explanation, &unbound, waiting)?;
     }
+    explanation.untold = explanation.untold.saturating_add(unbound.more);
     explanation.hint = hint_of_unbound(alloc, view, &unbound, declaration)?;
     Ok(Some(explanation))
 }
@@ -68,6 +69,10 @@ fn push_awaited(
     unbound: &Unbound,
     waiting: &Waiting,
 ) -> Result<(), OutOfMemory> {
+    if waiting.asked.is_empty() && waiting.other.is_empty() {
+        out.extend_from_slice(b" is never ready")?;
+        return Ok(());
+    }
     out.extend_from_slice(b" waits for ")?;
     if waiting.asked.is_empty() {
         push_list(out, unbound, waiting.other.as_slice(), b" or ")
@@ -113,7 +118,7 @@ pub fn name_of_form(form: Form) -> &'static str {
         Form::Not => "`Not`",
         Form::Exists => "`Exists`",
         Form::Pattern | Form::Slot => "pattern",
-        Form::Equation => "equation",
+        Form::Equality => "equality",
         Form::Predicate => "predicate",
         _ => "formula",
     }

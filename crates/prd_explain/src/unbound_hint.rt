@@ -131,7 +131,7 @@ fn words_of(standing: Standing) -> &'static str {
         Standing::InActions => " stands in the block alone",
         Standing::InNot => " stands only inside `Not`, which gives no values",
         Standing::Asked =>
-            " stands only in built-ins' calls and equations, which ask for its value",
+            " stands only in built-ins' calls and equalities, which ask for its value",
         Standing::InOr => " stands inside `Or`, and not each branch gives it a value",
         Standing::InPattern => " stands in patterns that wait",
     }

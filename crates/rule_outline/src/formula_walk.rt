@@ -40,7 +40,7 @@ pub fn walk_formula(
             Ok(())
         }
         Formula::Equal(left, right) => {
-            let inside = walk.open(Form::Equation, around)?;
+            let inside = walk.open(Form::Equality, around)?;
             walk_two(walk, inside.asked(), left, right)
         }
         Formula::Member(object, class) => {

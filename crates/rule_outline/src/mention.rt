@@ -27,7 +27,7 @@ pub struct Mention {
     pub is_in_not: bool,
     /// Whether an `Or` stands between it and what declares it.
     pub is_in_or: bool,
-    /// Whether it stands where a value is asked for: in a built-in's call or in an equation.
+    /// Whether it stands where a value is asked for: in a built-in's call or in an equality.
     pub is_asked: bool,
 }
 

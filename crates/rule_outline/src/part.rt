@@ -19,7 +19,7 @@ pub enum Form {
     Slot,
     /// An atom or a membership.
     Pattern,
-    Equation,
+    Equality,
     Predicate,
 }
 

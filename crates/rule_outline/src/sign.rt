@@ -36,9 +36,10 @@ pub fn sign_of(leaf: &Leaf) -> Option<Sign> {
 
 /// The first sign from a place on, and its place.
 pub fn next_sign(leaves: &[Leaf], from: usize) -> Option<(usize, Sign)> {
-    for (place, leaf) in leaves.iter().enumerate().skip(from) {
+    let rest = leaves.get(from..)?;
+    for (place, leaf) in rest.iter().enumerate() {
         if let Some(sign) = sign_of(leaf) {
-            return Some((place, sign));
+            return Some((from.saturating_add(place), sign));
         }
     }
     None

@@ -1,12 +1,17 @@
 //! What waits for which variables, where a condition can't be put in order.
 use ready_order::{Division, arrange_conjuncts, conjuncts};
+use rif_refusals::limits::MOST_VARIABLES;
 use rif_tree::{Formula, Rule, Term, has_variable};
 use rif_values::{Const, OutOfMemory, Text};
 use rule_scopes::{NumberedRule, number};
 use sqlite_items::Items;
 use std::alloc::Global;
 
-/// A conjunct of a condition that is never ready. Variables are numbers.
+/// How many conjuncts that wait are told at most.
+const MOST_TOLD: usize = 32;
+
+/// A conjunct of a condition that is never ready. Variables are numbers. Of one in which more than 32 have no value, no
+/// variable is told.
 #[derive(Drop)]
 pub struct Waiting {
     /// Which of the condition's conjuncts it is, counted from 0.
@@ -24,7 +29,10 @@ pub struct Unbound {
     pub number: u32,
     /// The name of each variable, at the place of its number.
     pub names: Vec<Text>,
+    /// The conjuncts that are never ready, 32 at most.
     pub waiting: Vec<Waiting>,
+    /// How many more there are.
+    pub more: u64,
 }
 
 /// What isn't bound in the condition of a rule, each of whose variables holds where it stands; None where each is.
@@ -48,11 +56,16 @@ fn unbound_among(
 ) -> Result<Option<Unbound>, OutOfMemory> {
     let division = arrange_conjuncts(alloc, conjuncts)?;
     match variable_told(alloc, rule, &division)? {
-        Some(number) => Ok(Some(Unbound {
-            number,
-            names: copies_of(alloc, rule.names.as_slice())?,
-            waiting: waiting_in(alloc, division.bound.as_slice(), conjuncts)?,
-        })),
+        Some(number) => {
+            let mut unbound = Unbound {
+                number,
+                names: copies_of(alloc, rule.names.as_slice())?,
+                waiting: Vec::new(alloc),
+                more: 0,
+            };
+            wait_each(alloc, &mut unbound, division.bound.as_slice(), conjuncts)?;
+            Ok(Some(unbound))
+        }
         None => Ok(None),
     }
 }
@@ -79,18 +92,35 @@ fn variable_told(
     }
 }
 
-fn waiting_in(
+// Adds each of some conjuncts that isn't ready.
+fn wait_each(
     alloc: Global,
+    unbound: &mut Unbound,
     bound: &[u32],
     conjuncts: &[Formula],
-) -> Result<Vec<Waiting>, OutOfMemory> {
-    let mut all = Vec::new(alloc);
+) -> Result<(), OutOfMemory> {
     for (place, conjunct) in conjuncts.iter().enumerate() {
         if !is_ready(alloc, bound, conjunct)? {
-            all.push(waiting_at(alloc, place, bound, conjunct)?)?;
+            wait_one(alloc, unbound, place, bound, conjunct)?;
         }
     }
-    Ok(all)
+    Ok(())
+}
+
+fn wait_one(
+    alloc: Global,
+    unbound: &mut Unbound,
+    place: usize,
+    bound: &[u32],
+    conjunct: &Formula,
+) -> Result<(), OutOfMemory> {
+    if unbound.waiting.len() < MOST_TOLD {
+        let waiting = waiting_at(alloc, place, bound, conjunct)?;
+        unbound.waiting.push(waiting)?;
+    } else {
+        unbound.more = unbound.more.saturating_add(1);
+    }
+    Ok(())
 }
 
 fn waiting_at(
@@ -151,7 +181,7 @@ fn pattern_of(alloc: Global, vars: &[u32]) -> Result<Formula, OutOfMemory> {
     Ok(Formula::Atom(Const::Bool(true), Items::from_vec(terms)))
 }
 
-// The variables that occur in a conjunct and aren't bound, the least first.
+// The variables that occur in a conjunct and aren't bound, the least first; none where there are more than 32.
 fn unbound_in(alloc: Global, bound: &[u32], conjunct: &Formula) -> Result<Vec<u32>, OutOfMemory> {
     let mut found = Vec::new(alloc);
     let mut left = Vec::new(alloc);
@@ -161,7 +191,7 @@ fn unbound_in(alloc: Global, bound: &[u32], conjunct: &Formula) -> Result<Vec<u3
         left: Items::from_vec(left),
         bound: Items::from_slice(alloc, bound)?,
     };
-    for _ in 0..u32::MAX {
+    for _ in 0..MOST_VARIABLES + 1 {
         match division.least_unbound(alloc)? {
             Some(var) => {
                 division.bound.push(var)?;
@@ -170,5 +200,5 @@ fn unbound_in(alloc: Global, bound: &[u32], conjunct: &Formula) -> Result<Vec<u3
             None => return Ok(found),
         }
     }
-    Ok(found)
+    Ok(Vec::new(alloc))
 }

@@ -154,8 +154,8 @@ impl<'a> Walk<'a> {
     /// Leaves the reach of all variables but the first so many that hold.
     pub fn leave(&mut self, held: usize) {
         let end = self.mentions.len();
-        for one in self.held.as_slice().iter().skip(held) {
-            end_reach(self.mentions.as_mut_slice(), one.declaration, end);
+        if let Some(left) = self.held.as_slice().get(held..) {
+            end_reaches(self.mentions.as_mut_slice(), left, end);
         }
         self.held.truncate(held);
     }
@@ -217,21 +217,17 @@ fn begin_reach(mentions: &mut [Mention], declaration: usize, first: usize) {
     }
 }
 
-fn end_reach(mentions: &mut [Mention], declaration: usize, end: usize) {
-    if let Some(mention) = mentions.get_mut(declaration) {
-        mention.reach.1 = end;
+fn end_reaches(mentions: &mut [Mention], left: &[Held], end: usize) {
+    for one in left {
+        if let Some(mention) = mentions.get_mut(one.declaration) {
+            mention.reach.1 = end;
+        }
     }
 }
 
 // The innermost declaration of a variable that holds.
 fn innermost(held: &[Held], var: u32) -> Option<Held> {
-    let mut found = None;
-    for one in held {
-        if one.var == var {
-            found = Some(*one);
-        }
-    }
-    found
+    held.iter().rev().find(|one| one.var == var).copied()
 }
 
 fn mention_at(
