@@ -1,6 +1,6 @@
 -- An arrangement is what comes of taking the first that is ready again and again.
 use Rattle.std.proofs.Common.{◌≡◌, ℕ, zero, suc, ◌+◌, ◌≤◌, List, [], ◌∷◌, ◌++◌, length, Some, None, ap, ◌∙◌}
-use Rattle.std.proofs.Common.{refl}
+use Rattle.std.proofs.Common.{refl, subst}
 use Rattle.std.proofs.Common.{arith, length-append}
 use Rattle.std.specs.declared.option.Option.{Option}
 use Rattle.std.specs.Option.{option_map}
@@ -35,6 +35,10 @@ first_found : (bound : List ℕ) (pieces : List Piece) → IsFound bound pieces 
 first_found bound [] = tt
 first_found bound (piece ∷ pieces) =
     found_or bound piece pieces (piece.at bound) (first_ready bound pieces) refl (first_found bound pieces)
+
+pub none_unready : (bound : List ℕ) (pieces : List Piece) → first_ready bound pieces ≡ None
+    → AreUnready bound pieces
+none_unready bound pieces none = subst (IsFound bound pieces) none (first_found bound pieces)
 
 -- an arrangement by the relation
 abbrev pub ArrangesTo : List ℕ → List Piece → Arrangement → Type 0

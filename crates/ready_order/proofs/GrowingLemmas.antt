@@ -35,12 +35,12 @@ removes_at [] piece behind = at_front piece behind
 removes_at (other ∷ before) piece behind =
     further piece other (before ++ piece ∷ behind) (before ++ behind) (removes_at before piece behind)
 
-removed_one : (P : Piece → Type 0) (piece : Piece) (pieces left : List Piece) → Removes piece pieces left
+pub removed_one : (P : Piece → Type 0) (piece : Piece) (pieces left : List Piece) → Removes piece pieces left
     → Each P pieces → P piece
 removed_one P piece pieces left (at_front _ _) all = all.0
 removed_one P piece pieces left (further _ other more rest removes) all = removed_one P piece more rest removes all.1
 
-removed_other : (P : Piece → Type 0) (piece : Piece) (pieces left : List Piece) → Removes piece pieces left
+pub removed_other : (P : Piece → Type 0) (piece : Piece) (pieces left : List Piece) → Removes piece pieces left
     → Each P pieces → Each P left
 removed_other P piece pieces left (at_front _ _) all = all.1
 removed_other P piece pieces left (further _ other more rest removes) all =

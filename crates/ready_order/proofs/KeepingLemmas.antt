@@ -112,14 +112,14 @@ conjunct_induction P kept =
 -- ---- variables
 
 -- a word for some variables of formulas, where `Exists` changes those of its formula so
-record IsWord (word : Formula → List ℕ) (declared : List ℕ → List ℕ → List ℕ) : Type 0 where
-  and : (fs : List Formula) → word (And fs) ≡ flat_map word fs
-  or : (fs : List Formula) → word (Or fs) ≡ flat_map word fs
-  not : (f : Formula) → word (Not f) ≡ word f
-  exists : (vs : List ℕ) (f : Formula) → word (Exists vs f) ≡ declared vs (word f)
-  frame : (o : Term) (pairs : List (Term × Term)) → word (Frame o pairs) ≡ slots_free o pairs
+pub record IsWord (word : Formula → List ℕ) (declared : List ℕ → List ℕ → List ℕ) : Type 0 where
+  pub and : (fs : List Formula) → word (And fs) ≡ flat_map word fs
+  pub or : (fs : List Formula) → word (Or fs) ≡ flat_map word fs
+  pub not : (f : Formula) → word (Not f) ≡ word f
+  pub exists : (vs : List ℕ) (f : Formula) → word (Exists vs f) ≡ declared vs (word f)
+  pub slots : (o : Term) (pairs : List (Term × Term)) → flat_map word (slots_of o pairs) ≡ word (Frame o pairs)
 
-abbrev KeepsWord : (Formula → List ℕ) → Formula → List Formula → Type 0
+abbrev pub KeepsWord : (Formula → List ℕ) → Formula → List Formula → Type 0
 KeepsWord word f conjuncts = flat_map word conjuncts ≡ word f
 
 members_kept : (word : Formula → List ℕ) (fs : List Formula)
@@ -137,15 +137,7 @@ branches_kept word declared is [] all = refl
 branches_kept word declared is (f ∷ fs) all =
     ap₂ (λ us ws. us ++ ws) (is.and (conjuncts_of f) ∙ all.0) (branches_kept word declared is fs all.1)
 
-slots_kept : (word : Formula → List ℕ) (declared : List ℕ → List ℕ → List ℕ) → IsWord word declared
-    → (o : Term) (pairs : List (Term × Term)) → flat_map word (slots_of o pairs) ≡ slots_free o pairs
-slots_kept word declared is o [] = refl
-slots_kept word declared is o (pair ∷ pairs) =
-    ap₂ (λ us ws. us ++ ws)
-    (is.frame o (pair ∷ []) ∙ append-nil (variables_of o ++ variables_of_pair pair))
-    (slots_kept word declared is o pairs)
-
-word_kept : (word : Formula → List ℕ) (declared : List ℕ → List ℕ → List ℕ) → IsWord word declared
+pub word_kept : (word : Formula → List ℕ) (declared : List ℕ → List ℕ → List ℕ) → IsWord word declared
     → IsKept (KeepsWord word)
 word_kept word declared is = record {
   conjunction = λ fs all. members_kept word fs all ∙ sym (is.and fs);
@@ -158,13 +150,27 @@ word_kept word declared is = record {
   existence = λ vs f all.
       append-nil (word (Exists vs (as_conjunction f))) ∙ is.exists vs (as_conjunction f)
       ∙ ap (declared vs) (is.and (conjuncts_of f) ∙ all) ∙ sym (is.exists vs f);
-  frame = λ o pairs. slots_kept word declared is o pairs ∙ sym (is.frame o pairs);
+  frame = is.slots;
   alone = λ f single. append-nil (word f);
 }
+
+-- a word for the variables of a frame, slot by slot
+abbrev IsOfSlots : (Formula → List ℕ) → Type 0
+IsOfSlots word = (o : Term) (pairs : List (Term × Term)) → word (Frame o pairs) ≡ slots_free o pairs
+
+slots_kept : (word : Formula → List ℕ) → IsOfSlots word → (o : Term) (pairs : List (Term × Term))
+    → flat_map word (slots_of o pairs) ≡ slots_free o pairs
+slots_kept word is o [] = refl
+slots_kept word is o (pair ∷ pairs) =
+    ap₂ (λ us ws. us ++ ws) (is o (pair ∷ []) ∙ append-nil (variables_of o ++ variables_of_pair pair))
+    (slots_kept word is o pairs)
 
 free_at : (x : Formula-F Formula) (f : Formula) → roll-Formula x ≡ f
     → free_of f ≡ free_step (map-Formula Formula (List ℕ) free_of x)
 free_at x f is = ap free_of (sym is) ∙ fold-roll-Formula (List ℕ) free_step x
+
+frame_free : IsOfSlots free_of
+frame_free o pairs = free_at (FrameLayer o pairs) (Frame o pairs) (rolls-Frame o pairs)
 
 free_word : IsWord free_of without
 free_word = record {
@@ -172,7 +178,7 @@ free_word = record {
   or = free_or;
   not = λ f. free_at (NotLayer f) (Not f) (rolls-Not f);
   exists = λ vs f. free_at (ExistsLayer vs f) (Exists vs f) (rolls-Exists vs f);
-  frame = λ o pairs. free_at (FrameLayer o pairs) (Frame o pairs) (rolls-Frame o pairs);
+  slots = λ o pairs. slots_kept free_of frame_free o pairs ∙ sym (frame_free o pairs);
 }
 
 abbrev pub occurring_of : Formula → List ℕ
@@ -186,13 +192,16 @@ occurring_at x f is =
 pub each_occurring : (fs : List Formula) → occurring_in_pieces (map piece_of fs) ≡ flat_map occurring_of fs
 each_occurring fs = flat_map-map Piece.occurring piece_of fs
 
+frame_occurring : IsOfSlots occurring_of
+frame_occurring o pairs = occurring_at (FrameLayer o pairs) (Frame o pairs) (rolls-Frame o pairs)
+
 occurring_word : IsWord occurring_of (λ vs us. us)
 occurring_word = record {
   and = λ fs. occurring_at (AndLayer fs) (And fs) (rolls-And fs) ∙ each_occurring fs;
   or = λ fs. occurring_at (OrLayer fs) (Or fs) (rolls-Or fs) ∙ each_occurring fs;
   not = λ f. occurring_at (NotLayer f) (Not f) (rolls-Not f);
   exists = λ vs f. occurring_at (ExistsLayer vs f) (Exists vs f) (rolls-Exists vs f);
-  frame = λ o pairs. occurring_at (FrameLayer o pairs) (Frame o pairs) (rolls-Frame o pairs);
+  slots = λ o pairs. slots_kept occurring_of frame_occurring o pairs ∙ sym (frame_occurring o pairs);
 }
 
 pub conjuncts_free : (f : Formula) → free_of (And (conjuncts_of f)) ≡ free_of f

@@ -139,19 +139,19 @@ shape_at : (x : Formula-F Formula) (f : Formula) → roll-Formula x ≡ f
     → shape_of f ≡ shape_step (map-Formula Formula Shape shape_of x)
 shape_at x f is = ap shape_of (sym is) ∙ fold-roll-Formula Shape shape_step x
 
-shape_and : (fs : List Formula) → shape_of (And fs) ≡ shape_step (AndLayer (map shape_of fs))
+pub shape_and : (fs : List Formula) → shape_of (And fs) ≡ shape_step (AndLayer (map shape_of fs))
 shape_and fs = shape_at (AndLayer fs) (And fs) (rolls-And fs)
 
-shape_or : (fs : List Formula) → shape_of (Or fs) ≡ shape_step (OrLayer (map shape_of fs))
+pub shape_or : (fs : List Formula) → shape_of (Or fs) ≡ shape_step (OrLayer (map shape_of fs))
 shape_or fs = shape_at (OrLayer fs) (Or fs) (rolls-Or fs)
 
-shape_not : (f : Formula) → shape_of (Not f) ≡ shape_step (NotLayer (shape_of f))
+pub shape_not : (f : Formula) → shape_of (Not f) ≡ shape_step (NotLayer (shape_of f))
 shape_not f = shape_at (NotLayer f) (Not f) (rolls-Not f)
 
-shape_exists : (vs : List ℕ) (f : Formula) → shape_of (Exists vs f) ≡ shape_step (ExistsLayer vs (shape_of f))
+pub shape_exists : (vs : List ℕ) (f : Formula) → shape_of (Exists vs f) ≡ shape_step (ExistsLayer vs (shape_of f))
 shape_exists vs f = shape_at (ExistsLayer vs f) (Exists vs f) (rolls-Exists vs f)
 
-shape_frame : (o : Term) (pairs : List (Term × Term)) → shape_of (Frame o pairs) ≡ shape_step (FrameLayer o pairs)
+pub shape_frame : (o : Term) (pairs : List (Term × Term)) → shape_of (Frame o pairs) ≡ shape_step (FrameLayer o pairs)
 shape_frame o pairs = shape_at (FrameLayer o pairs) (Frame o pairs) (rolls-Frame o pairs)
 
 record IsOwn (f : Formula) (conjuncts : List Formula) : Type 0 where

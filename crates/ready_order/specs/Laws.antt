@@ -14,6 +14,8 @@
 --     IsNothingLost             a formula's conjuncts have the variables that it has: those free, and those that
 --                               occur. What is bound behind those taken, and what those left have free, are what it
 --                               has free; so where none is left, those taken have it
+--     AreDeclarationsKept       where all of a condition's conjuncts are taken, they declare what it declares
+--     IsArrangementShaped       what is taken of a condition's conjuncts has the shape of arranged conditions
 --     IsLeftUnbound             where conjuncts are left, some variable occurs in them that isn't bound, so that
 --                               there is a least one
 --     IsLeastLeft               and that one occurs in them and isn't bound, and no less one is so
@@ -34,6 +36,7 @@ use Rattle.rif_tree.specs.Variables.{has_variable, has_all, free_of}
 use Rattle.ready_order.specs.Arranging.{Piece, Arrangement, piece_of, arrangement, arranged, arrangement_of}
 use Rattle.ready_order.specs.Arranging.{free_in_pieces, occurring_in_pieces, least_unbound}
 use Rattle.ready_order.specs.Conjuncts.{conjuncts_of}
+use Rattle.ready_order.specs.Declarations.{declared_of}
 use Rattle.ready_order.specs.Shapes.{is_shaped}
 
 abbrev pub AreUnready : List ℕ → List Piece → Type 0
@@ -84,6 +87,13 @@ pub record IsNothingLost : Type 0 where
       → let a = arrangement_of f in AreSame (a.bound ++ free_in_pieces a.left) (free_of f)
   pub taken : (f : Formula) → (arrangement_of f).left ≡ []
       → AreSame (free_of (And (arrangement_of f).taken)) (free_of f)
+
+abbrev pub AreDeclarationsKept : Type 0
+AreDeclarationsKept = (f : Formula) → (arrangement_of f).left ≡ []
+    → AreSame (declared_of (And (arrangement_of f).taken)) (declared_of f)
+
+abbrev pub IsArrangementShaped : Type 0
+IsArrangementShaped = (f : Formula) → is_shaped (And (arrangement_of f).taken) ≡ true
 
 pub record IsLeftNamed (a : Arrangement) : Type 0 where
   pub unbound : has_all a.bound (occurring_in_pieces a.left) ≡ true → a.left ≡ []

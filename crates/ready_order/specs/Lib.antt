@@ -1,7 +1,9 @@
 pub mod Arranging
 pub mod Branches
 pub mod Conjuncts
+pub mod Declarations
 pub mod Divisions
+pub mod Findings
 pub mod Laws
 pub mod Marks
 pub mod Shapes

@@ -11,18 +11,19 @@ ghost use Rattle.ready_order.specs.Divisions.{arrangement_told};
 ghost use Rattle.ready_order.specs.Marks.{left_of, pieces_left, progress_told, taking_told, untaken};
 
 use crate::division::Division;
+use crate::findings::Findings;
 use crate::flattening::conjuncts;
-use crate::progress::{Found, Progress};
-use crate::readiness::{
-    are_all_bound, are_slots_ready, is_equal_ready, is_member_ready, is_pattern_ready,
-};
-use crate::variables::{has_all, push_each_free, push_free};
+use crate::probing::may_be_arranged;
+use crate::progress::{Found, Progress, are_all};
+use crate::readiness::is_plain_ready;
+use crate::variables::{binds_all, free_in, free_in_each, is_closed};
 use rif_tree::Formula;
 use rif_values::OutOfMemory;
 use sqlite_items::{Boxed, Items};
 use std::alloc::Global;
 
-/// A condition's conjuncts, put into a ready order as far as that can be.
+/// A condition's conjuncts, put into a ready order as far as that can be, at the cost of `conjuncts` and
+/// `arrange_conjuncts`.
 pub fn arrange(alloc: Global, condition: &Formula) -> Result<Division, OutOfMemory>
     ensures { IfOk result (λ done. arrangement_told done ≡ arrangement_of condition.now) }
 {
@@ -32,6 +33,10 @@ pub fn arrange(alloc: Global, condition: &Formula) -> Result<Division, OutOfMemo
 
 /// Conjuncts put into a ready order as far as that can be, where no variable is bound before. They are what
 /// `conjuncts` answers, so that each is arranged within.
+///
+/// What can be arranged can be where more variables are bound. So a test that keeps what it found before tells which
+/// conjunct is ready, and each formula is arranged once. Of n formulas, at most d inside one another, there are at
+/// most d n n tests; each goes over its formula, and compares each variable in it with those bound or declared.
 pub fn arrange_conjuncts(alloc: Global, conjuncts: &[Formula]) -> Result<Division, OutOfMemory>
     ensures { IfOk result (λ done. arrangement_told done ≡ arrangement [] (map piece_of conjuncts.now)) }
 {
@@ -82,10 +87,12 @@ fn take_ready(alloc: Global, bound: &[u32], conjuncts: &[Formula]) -> Result<Pro
         (λ done. progress_told conjuncts.now done ≡ arrangement bound.now (map piece_of conjuncts.now)) }
     ensures marks { IfOk result (λ done. length done.is_taken ≡ length conjuncts.now) }
 {
+    let mut findings = Findings::new(alloc, conjuncts)?;
     let mut progress = Progress::new(alloc, bound, conjuncts.len())?;
     for turn in 0..conjuncts.len() {
         let outcome = next_ready(
             alloc,
+            &mut findings,
             progress.bound.as_slice(),
             conjuncts,
             progress.is_taken.as_slice(),
@@ -102,6 +109,7 @@ fn take_ready(alloc: Global, bound: &[u32], conjuncts: &[Formula]) -> Result<Pro
 #[cycle(arranged)]
 fn next_ready(
     alloc: Global,
+    findings: &mut Findings,
     bound: &[u32],
     conjuncts: &[Formula],
     is_taken: &[bool],
@@ -115,7 +123,7 @@ fn next_ready(
 {
     for place in 0..conjuncts.len() {
         let conjunct = &conjuncts[place];
-        let outcome = tried(alloc, bound, conjunct, is_taken[place])?;
+        let outcome = tried(alloc, findings, place, bound, conjunct, is_taken[place])?;
         match outcome {
             None => {}
             Some(taken) => {
@@ -131,10 +139,12 @@ fn next_ready(
     Ok(None)
 }
 
-// A conjunct, arranged within, where it is left and ready.
+// A conjunct, arranged within, where it is left and ready. It is tried only where that isn't in vain.
 #[cycle(arranged)]
 fn tried(
     alloc: Global,
+    findings: &mut Findings,
+    place: usize,
     bound: &[u32],
     conjunct: &Formula,
     is_taken: bool,
@@ -142,9 +152,13 @@ fn tried(
     ensures { IfOk result (λ found. found ≡ untaken is_taken (arranged bound.now conjunct.now)) }
 {
     if is_taken {
-        Ok(None)
-    } else {
+        return Ok(None);
+    }
+    let start = findings.start_of(place);
+    if may_be_arranged(alloc, findings, start, bound, conjunct)? {
         arranged(alloc, bound, conjunct)
+    } else {
+        Ok(None)
     }
 }
 
@@ -166,33 +180,12 @@ fn arranged(alloc: Global, bound: &[u32], formula: &Formula) -> Result<Option<Fo
             let kept = arranged(alloc, bound, inner.get())?;
             as_exists(alloc, vars.as_slice(), kept)
         }
-        Formula::Equal(left, right) => {
-            copied_where(alloc, is_equal_ready(alloc, bound, left, right)?, formula)
-        }
-        Formula::Member(object, class) => {
-            copied_where(
-                alloc,
-                is_member_ready(alloc, bound, object, class)?,
-                formula,
-            )
-        }
-        Formula::Frame(object, pairs) => {
-            let is_ready = are_slots_ready(alloc, bound, object, pairs.as_slice())?;
-            copied_where(alloc, is_ready, formula)
-        }
-        Formula::Atom(_, terms) => {
-            copied_where(
-                alloc,
-                is_pattern_ready(alloc, bound, terms.as_slice())?,
-                formula,
-            )
-        }
-        Formula::Holds(_, terms) => {
-            copied_where(
-                alloc,
-                are_all_bound(alloc, bound, terms.as_slice())?,
-                formula,
-            )
+        Formula::Equal(..)
+        | Formula::Member(..)
+        | Formula::Frame(..)
+        | Formula::Atom(..)
+        | Formula::Holds(..) => {
+            copied_where(alloc, is_plain_ready(alloc, bound, formula)?, formula)
         }
     }
 }
@@ -218,17 +211,6 @@ fn where_all_taken(done: Progress) -> Option<Items<Formula>>
     } else {
         None
     }
-}
-
-fn are_all(marks: &[bool]) -> bool
-    ensures { result ≡ list_all (λ mark. mark) marks.now }
-{
-    for mark in marks {
-        if !*mark {
-            return false;
-        }
-    }
-    true
 }
 
 // The branches of an `Or`, where each can be arranged and then binds, or finds bound, all these variables.
@@ -268,20 +250,6 @@ fn arranged_branch(
     }
 }
 
-// Whether all these variables are bound behind a branch.
-fn binds_all(
-    alloc: Global,
-    bound: &[u32],
-    all: &[u32],
-    branch: &Formula,
-) -> Result<bool, OutOfMemory>
-    ensures { IfOk result (λ binds. binds ≡ has_all (bound.now ++ (piece_of branch.now).free) all.now) }
-{
-    let mut held = bound.to_vec(alloc)?;
-    push_free(alloc, &mut held, branch)?;
-    Ok(has_all(held.as_slice(), all))
-}
-
 // A negation, where all free variables of its formula are bound and it can be arranged.
 #[cycle(arranged)]
 fn arranged_negation(
@@ -302,30 +270,6 @@ fn arranged_negation(
     } else {
         Ok(None)
     }
-}
-
-// Whether all free variables of a formula are bound.
-fn is_closed(alloc: Global, bound: &[u32], formula: &Formula) -> Result<bool, OutOfMemory>
-    ensures { IfOk result (λ closed. closed ≡ has_all bound.now (piece_of formula.now).free) }
-{
-    let free = free_in(alloc, formula)?;
-    Ok(has_all(bound, free.as_slice()))
-}
-
-fn free_in(alloc: Global, formula: &Formula) -> Result<Items<u32>, OutOfMemory>
-    ensures { IfOk result (λ vars. vars ≡ (piece_of formula.now).free) }
-{
-    let mut vars = Vec::new(alloc);
-    push_free(alloc, &mut vars, formula)?;
-    Ok(Items::from_vec(vars))
-}
-
-fn free_in_each(alloc: Global, formulas: &[Formula]) -> Result<Items<u32>, OutOfMemory>
-    ensures { IfOk result (λ vars. vars ≡ free_in_pieces (map piece_of formulas.now)) }
-{
-    let mut vars = Vec::new(alloc);
-    push_each_free(alloc, &mut vars, formulas)?;
-    Ok(Items::from_vec(vars))
 }
 
 fn as_and(members: Option<Items<Formula>>) -> Option<Formula>

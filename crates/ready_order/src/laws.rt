@@ -2,7 +2,7 @@
 ghost use Rattle.ready_order.specs.Laws.{AreConjunctsScoped, AreTakenReady, AreTakenScoped, IsArrangedReady};
 ghost use Rattle.ready_order.specs.Laws.{IsArrangedStaying, IsArrangingGrowing, IsReadyArranged};
 ghost use Rattle.ready_order.specs.Laws.{IsArrangementScoped, IsArrangementTaking, IsLeastLeft, IsLeftUnbound};
-ghost use Rattle.ready_order.specs.Laws.{IsNothingLost};
+ghost use Rattle.ready_order.specs.Laws.{AreDeclarationsKept, IsArrangementShaped, IsNothingLost};
 
 use rif_tree::{readiness_grows, readiness_is_of_members};
 
@@ -48,6 +48,17 @@ pub fn nothing_is_lost()
 {
     readiness_is_of_members();
 }
+
+/// Law: no declaration is lost, and none comes in: where none of a condition's conjuncts is left, those that are
+/// taken declare the variables that it declares.
+pub fn declarations_are_kept()
+    ensures { AreDeclarationsKept }
+{}
+
+/// Law: what is taken of a condition's conjuncts has the shape of arranged conditions.
+pub fn arrangement_is_shaped()
+    ensures { IsArrangementShaped }
+{}
 
 /// Law: where conjuncts are left, some variable that occurs in them isn't bound, so that a refusal can name one.
 pub fn left_is_unbound()

@@ -1,5 +1,6 @@
 //! How far some conjuncts are arranged.
 ghost use Rattle.std.specs.Prelude.{◌≡◌, ◌<◌, ◌++◌, [], ◌∷◌, true, false, length, replicate, set, IfOk, OnOk};
+ghost use Rattle.std.specs.List.{list_all};
 
 use rif_tree::Formula;
 use rif_values::OutOfMemory;
@@ -51,4 +52,16 @@ impl Progress {
         self.bound.append(found.binds)?;
         Ok(())
     }
+}
+
+/// Whether each of some marks is set.
+pub(crate) fn are_all(marks: &[bool]) -> bool
+    ensures { result ≡ list_all (λ mark. mark) marks.now }
+{
+    for mark in marks {
+        if !*mark {
+            return false;
+        }
+    }
+    true
 }

@@ -3,18 +3,36 @@ ghost use Rattle.std.specs.Prelude.{◌≡◌, [], ◌∷◌, IfOk};
 ghost use Rattle.std.specs.List.{flat_map};
 ghost use Rattle.rif_tree.specs.Ready.{pattern_ready, equal_ready, slots_ready, is_unbound_variable};
 ghost use Rattle.rif_tree.specs.Variables.{variables_of, called_variables_of, has_all};
+ghost use Rattle.ready_order.specs.Findings.{plain_ready};
 
 use crate::variables::{has_all, push_both, push_each_variables, push_variables};
-use rif_tree::{Term, has_variable};
+use rif_tree::{Formula, Term, has_variable};
 use rif_values::OutOfMemory;
 use std::alloc::Global;
 
-/// Whether all variables inside the function terms of a pattern's terms are bound.
-pub(crate) fn is_pattern_ready(
+/// Whether a conjunct without formulas inside it is ready; no other is by this test.
+pub(crate) fn is_plain_ready(
     alloc: Global,
     bound: &[u32],
-    terms: &[Term],
+    conjunct: &Formula,
 ) -> Result<bool, OutOfMemory>
+    ensures { IfOk result (λ ready. ready ≡ plain_ready bound.now conjunct.now) }
+{
+    match conjunct {
+        Formula::Equal(left, right) => is_equal_ready(alloc, bound, left, right),
+        Formula::Member(object, class) => is_member_ready(alloc, bound, object, class),
+        Formula::Frame(object, pairs) => are_slots_ready(alloc, bound, object, pairs.as_slice()),
+        Formula::Atom(_, terms) => is_pattern_ready(alloc, bound, terms.as_slice()),
+        Formula::Holds(_, terms) => are_all_bound(alloc, bound, terms.as_slice()),
+        Formula::And(_) => Ok(false),
+        Formula::Or(_) => Ok(false),
+        Formula::Not(_) => Ok(false),
+        Formula::Exists(..) => Ok(false),
+    }
+}
+
+// Whether all variables inside the function terms of a pattern's terms are bound.
+fn is_pattern_ready(alloc: Global, bound: &[u32], terms: &[Term]) -> Result<bool, OutOfMemory>
     ensures { IfOk result (λ ready. ready ≡ pattern_ready bound.now terms.now) }
 {
     for term in terms {
@@ -25,8 +43,8 @@ pub(crate) fn is_pattern_ready(
     Ok(true)
 }
 
-/// Whether all variables inside the function terms of an object and its class are bound.
-pub(crate) fn is_member_ready(
+// Whether all variables inside the function terms of an object and its class are bound.
+fn is_member_ready(
     alloc: Global,
     bound: &[u32],
     object: &Term,
@@ -37,8 +55,8 @@ pub(crate) fn is_member_ready(
     Ok(are_called_bound(alloc, bound, object)? && are_called_bound(alloc, bound, class)?)
 }
 
-/// Whether the slots of a frame are ready in their order.
-pub(crate) fn are_slots_ready(
+// Whether the slots of a frame are ready in their order.
+fn are_slots_ready(
     alloc: Global,
     bound: &[u32],
     object: &Term,
@@ -72,8 +90,8 @@ fn is_slot_ready(
     )
 }
 
-/// Whether all variables of an equality are bound, or one side is a variable that isn't and the other side's are.
-pub(crate) fn is_equal_ready(
+// Whether all variables of an equality are bound, or one side is a variable that isn't and the other side's are.
+fn is_equal_ready(
     alloc: Global,
     bound: &[u32],
     left: &Term,
@@ -90,12 +108,8 @@ pub(crate) fn is_equal_ready(
     )
 }
 
-/// Whether all variables of a predicate's arguments are bound.
-pub(crate) fn are_all_bound(
-    alloc: Global,
-    bound: &[u32],
-    terms: &[Term],
-) -> Result<bool, OutOfMemory>
+// Whether all variables of a predicate's arguments are bound.
+fn are_all_bound(alloc: Global, bound: &[u32], terms: &[Term]) -> Result<bool, OutOfMemory>
     ensures { IfOk result (λ all. all ≡ has_all bound.now (flat_map variables_of terms.now)) }
 {
     let mut vars = Vec::new(alloc);

@@ -1,11 +1,12 @@
 //! The variables of terms and formulas, as lists in order of occurrence, with repeats.
-ghost use Rattle.std.specs.Prelude.{◌≡◌, ◌++◌, [], ◌∷◌, map, OnOk, if◌then◌else◌};
+ghost use Rattle.std.specs.Prelude.{◌≡◌, ◌++◌, [], ◌∷◌, map, IfOk, OnOk, if◌then◌else◌};
 ghost use Rattle.std.specs.List.{flat_map};
 ghost use Rattle.rif_tree.specs.Variables.{has_all, without, variables_of, slots_free};
 ghost use Rattle.ready_order.specs.Arranging.{piece_of, free_in_pieces, occurring_in_pieces};
 
 use rif_tree::{Formula, Term, has_variable};
 use rif_values::OutOfMemory;
+use sqlite_items::Items;
 use std::alloc::Global;
 
 /// Whether each of these variables is among some.
@@ -128,6 +129,50 @@ fn push_unless(vars: &mut Vec<u32>, var: u32, is_declared: bool) -> Result<(), O
         vars.push(var)?;
     }
     Ok(())
+}
+
+/// A formula's free variables.
+pub(crate) fn free_in(alloc: Global, formula: &Formula) -> Result<Items<u32>, OutOfMemory>
+    ensures { IfOk result (λ vars. vars ≡ (piece_of formula.now).free) }
+{
+    let mut vars = Vec::new(alloc);
+    push_free(alloc, &mut vars, formula)?;
+    Ok(Items::from_vec(vars))
+}
+
+/// The free variables of some formulas.
+pub(crate) fn free_in_each(alloc: Global, formulas: &[Formula]) -> Result<Items<u32>, OutOfMemory>
+    ensures { IfOk result (λ vars. vars ≡ free_in_pieces (map piece_of formulas.now)) }
+{
+    let mut vars = Vec::new(alloc);
+    push_each_free(alloc, &mut vars, formulas)?;
+    Ok(Items::from_vec(vars))
+}
+
+/// Whether all free variables of a formula are bound.
+pub(crate) fn is_closed(
+    alloc: Global,
+    bound: &[u32],
+    formula: &Formula,
+) -> Result<bool, OutOfMemory>
+    ensures { IfOk result (λ closed. closed ≡ has_all bound.now (piece_of formula.now).free) }
+{
+    let free = free_in(alloc, formula)?;
+    Ok(has_all(bound, free.as_slice()))
+}
+
+/// Whether all these variables are bound behind a branch.
+pub(crate) fn binds_all(
+    alloc: Global,
+    bound: &[u32],
+    all: &[u32],
+    branch: &Formula,
+) -> Result<bool, OutOfMemory>
+    ensures { IfOk result (λ binds. binds ≡ has_all (bound.now ++ (piece_of branch.now).free) all.now) }
+{
+    let mut held = bound.to_vec(alloc)?;
+    push_free(alloc, &mut held, branch)?;
+    Ok(has_all(held.as_slice(), all))
 }
 
 /// Puts the variables that occur in a formula at the end, those that an `Exists` declares among them.

@@ -1,6 +1,6 @@
 use Rattle.std.proofs.Common.{◌≡◌, true, take}
 use Rattle.std.specs.List.{list_all}
-use Rattle.ready_order.proofs.arranging.are_all.Given as goal
+use Rattle.ready_order.proofs.progress.are_all.Given as goal
 
 abbrev pub invariant-loop-mark : goal.invariant-loop-mark
 invariant-loop-mark l = list_all (λ mark. mark) (take l.mark-index l.marks) ≡ true
