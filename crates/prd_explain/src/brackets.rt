@@ -1,18 +1,14 @@
-//! Brackets that aren't closed, in words.
+//! Brackets that aren't closed.
 use crate::spot::Spot;
-use itoa::Buffer;
 use rif_lex::{Kind, Token};
-use rif_values::OutOfMemory;
 
 /// Which bracket isn't closed, where the end is found, or a closing bracket of the other kind.
-pub fn push_open_bracket(out: &mut Vec<u8>, spot: &Spot<'_>) -> Result<(), OutOfMemory> {
-    let open = match spot.innermost_bracket() {
-        Some(at) => spot.tokens.get(at),
-        None => None,
-    };
-    match open {
-        Some(open) if !may_close(open, spot.token()) => push_place(out, open),
-        _ => Ok(()),
+pub fn bracket_open<'a>(spot: &Spot<'a>) -> Option<&'a Token> {
+    let open = spot.tokens.get(spot.innermost_bracket()?)?;
+    if may_close(open, spot.token()) {
+        None
+    } else {
+        Some(open)
     }
 }
 
@@ -25,14 +21,4 @@ fn may_close(open: &Token, found: Option<&Token>) -> bool {
             _ => true,
         },
     }
-}
-
-fn push_place(out: &mut Vec<u8>, open: &Token) -> Result<(), OutOfMemory> {
-    let mut number = Buffer::new();
-    out.extend_from_slice(b"; the bracket at line ")?;
-    out.extend_from_slice(number.format(open.line).as_bytes())?;
-    out.extend_from_slice(b", column ")?;
-    out.extend_from_slice(number.format(open.col).as_bytes())?;
-    out.extend_from_slice(b" isn't closed")?;
-    Ok(())
 }

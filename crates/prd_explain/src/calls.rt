@@ -1,9 +1,8 @@
 //! Calls of built-ins with another number of arguments, in words.
-use crate::excerpt::push_name;
 use crate::spot::Spot;
-use itoa::Buffer;
 use prd_grammar::{BuiltinName, Leaf};
 use prd_recognition::is_term;
+use refusal_lines::{push_name, push_number};
 use rif_tree::{Arity, Builtin};
 use rif_values::OutOfMemory;
 
@@ -67,11 +66,5 @@ fn push_arguments(out: &mut Vec<u8>, builtin: Builtin) -> Result<(), OutOfMemory
     } else {
         b" arguments"
     })?;
-    Ok(())
-}
-
-fn push_number(out: &mut Vec<u8>, number: u64) -> Result<(), OutOfMemory> {
-    let mut text = Buffer::new();
-    out.extend_from_slice(text.format(number).as_bytes())?;
     Ok(())
 }

@@ -1,10 +1,10 @@
 //! What could stand at a place, in words.
-use crate::excerpt::push_short;
 use crate::spot::Spot;
 use crate::wanted::words_of;
 use itoa::Buffer;
 use prd_grammar::{Leaf, Literal};
 use prd_recognition::{Want, advance};
+use refusal_lines::push_short;
 use rif_values::{GREATEST_INTEGER, LEAST_INTEGER, OutOfMemory};
 use std::alloc::Global;
 use std::collections::VecDeque;

@@ -1,18 +1,20 @@
 //! Words that are keywords but for their case.
-use crate::excerpt::push_quoted;
+use refusal_lines::push_quoted;
 use rif_tree::{KEYWORDS, Keyword};
 use rif_values::OutOfMemory;
+use std::alloc::Global;
 
-/// The keyword that a word is in other case, if it is one.
-pub fn push_keyword(out: &mut Vec<u8>, word: &[u8]) -> Result<(), OutOfMemory> {
+/// What may be meant by a word that is a keyword in other case.
+pub fn hint_of_keyword(alloc: Global, word: &[u8]) -> Result<Option<Vec<u8>>, OutOfMemory> {
     match keyword_like(word) {
         Some(keyword) => {
-            out.extend_from_slice(b"; did you mean ")?;
-            push_quoted(out, keyword.text())?;
+            let mut out = Vec::new(alloc);
+            out.extend_from_slice(b"did you mean ")?;
+            push_quoted(&mut out, keyword.text())?;
             out.push(b'?')?;
-            Ok(())
+            Ok(Some(out))
         }
-        None => Ok(()),
+        None => Ok(None),
     }
 }
 

@@ -1,5 +1,5 @@
 //! Limits that are passed, in words.
-use itoa::Buffer;
+use refusal_lines::push_number;
 use rif_refusals::Counted;
 use rif_refusals::limits::{MOST_ACTIONS, MOST_PATTERNS, MOST_RULES, MOST_VARIABLES};
 use rif_values::OutOfMemory;
@@ -7,12 +7,10 @@ use rif_values::OutOfMemory;
 /// How many there may be of what a document or a rule has too many of.
 pub fn push_limit(out: &mut Vec<u8>, what: Counted) -> Result<(), OutOfMemory> {
     let (owner, most) = limit_of(what);
-    let mut number = Buffer::new();
     out.extend_from_slice(b"; ")?;
     out.extend_from_slice(owner.as_bytes())?;
     out.extend_from_slice(b" at most ")?;
-    out.extend_from_slice(number.format(most).as_bytes())?;
-    Ok(())
+    push_number(out, most)
 }
 
 // What has them, and how many at most.

@@ -1,23 +1,25 @@
 //! Names of built-ins that stand where they can't, in words.
-use crate::excerpt::push_name;
 use crate::expected::wanted_behind;
 use crate::spot::Spot;
 use prd_grammar::Leaf;
 use prd_leaves::{Prefixes, behind_colon, inner};
 use prd_recognition::advance;
+use refusal_lines::push_name;
 use rif_lex::Kind;
 use rif_tree::{Builtin, Func, Pred};
 use rif_values::OutOfMemory;
 use std::alloc::Global;
 
 /// How a built-in's call is written, where a bracket is found behind the name of one that stands as a term.
-pub fn push_external(alloc: Global, out: &mut Vec<u8>, spot: &Spot<'_>) -> Result<(), OutOfMemory> {
-    if is_behind_builtin(alloc, spot.leaves_before())? {
-        out.extend_from_slice(b"; a built-in's call is written External(")?;
-        push_name(out, spot.text(spot.at.saturating_sub(1)))?;
-        out.extend_from_slice(b"(..))")?;
+pub fn hint_of_external(alloc: Global, spot: &Spot<'_>) -> Result<Option<Vec<u8>>, OutOfMemory> {
+    if !is_behind_builtin(alloc, spot.leaves_before())? {
+        return Ok(None);
     }
-    Ok(())
+    let mut out = Vec::new(alloc);
+    out.extend_from_slice(b"a built-in's call is written External(")?;
+    push_name(&mut out, spot.text(spot.at.saturating_sub(1)))?;
+    out.extend_from_slice(b"(..))")?;
+    Ok(Some(out))
 }
 
 // Whether the last of the leaves names a built-in, and stands where a term may.
@@ -36,22 +38,19 @@ fn is_builtin(iri: &[u8]) -> bool {
 }
 
 /// The built-in of the same name in another namespace, if there is one.
-pub fn push_other_builtin(
-    alloc: Global,
-    out: &mut Vec<u8>,
-    spot: &Spot<'_>,
-) -> Result<(), OutOfMemory> {
+pub fn hint_of_builtin(alloc: Global, spot: &Spot<'_>) -> Result<Option<Vec<u8>>, OutOfMemory> {
     let name = name_at(spot);
     match prefix_of(alloc, spot.prefixes, name) {
         Some(prefix) => {
-            out.extend_from_slice(b"; did you mean `")?;
+            let mut out = Vec::new(alloc);
+            out.extend_from_slice(b"did you mean `")?;
             out.extend_from_slice(prefix)?;
             out.push(b':')?;
-            push_name(out, name)?;
+            push_name(&mut out, name)?;
             out.extend_from_slice(b"`?")?;
-            Ok(())
+            Ok(Some(out))
         }
-        None => Ok(()),
+        None => Ok(None),
     }
 }
 

@@ -1,6 +1,7 @@
 //! A place of a document: what stands there, and before it.
 use prd_grammar::Leaf;
 use prd_leaves::{Prefixes, text_of};
+use refusal_lines::Place;
 use rif_lex::{Kind, Token};
 
 /// A place of a document, with the tokens, the leaves and the prefixes of all of it. Behind the last token the
@@ -60,4 +61,9 @@ impl<'a> Spot<'a> {
             None => &self.bytes[self.bytes.len()..],
         }
     }
+}
+
+/// The place of a token of a text.
+pub fn place_of_token(bytes: &[u8], token: &Token) -> Place {
+    Place::of_text(token.line, token.col, text_of(bytes, *token))
 }

@@ -1,5 +1,5 @@
 //! What stands where no token begins, in words.
-use crate::excerpt::{before_break, is_string_closed, push_quoted};
+use refusal_lines::push_quoted;
 use rif_values::OutOfMemory;
 
 /// What stands where no token begins.
@@ -31,4 +31,36 @@ fn has_leading_zero(text: &[u8]) -> bool {
         _ => text,
     };
     2 <= digits.len() && digits[0] == b'0' && digits[1].is_ascii_digit()
+}
+
+// What of a text stands before the first bracket or white space behind its first character.
+fn before_break(text: &[u8]) -> &[u8] {
+    for at in 1..text.len() {
+        if is_break(text[at]) {
+            return &text[..at];
+        }
+    }
+    text
+}
+
+// Whether the string that a text begins with is closed in its line.
+fn is_string_closed(text: &[u8]) -> bool {
+    let mut escaped = true;
+    for byte in text {
+        match *byte {
+            b'\n' => return false,
+            b'"' if !escaped => return true,
+            b'\\' => escaped = !escaped,
+            _ => escaped = false,
+        }
+    }
+    false
+}
+
+// A bracket, or white space between tokens.
+fn is_break(byte: u8) -> bool {
+    match byte {
+        b'(' | b')' | b'[' | b']' | b' ' | b'\t' | b'\r' | b'\n' => true,
+        _ => false,
+    }
 }

@@ -66,7 +66,7 @@ fn main(rt: HostRuntime) -> ExitCode {
 
 // Says on standard error why an input is refused. Where no memory is found for it, nothing is said.
 fn explain_refusal(rt: &HostRuntime, alloc: Global, input: &[u8]) {
-    if let Ok(note) = note_on(alloc, input) {
+    if let Ok(Some(note)) = note_on(alloc, input) {
         if let Ok(text) = str::from_utf8(note.as_slice()) {
             let _ = eprintln!(rt; "{text}");
         }

@@ -1,37 +1,49 @@
-use prd_explain::{explain, explain_line};
+use prd_explain::{Explanation, explain, explain_line, explain_rule, lines_of};
+use prd_reader::read_doc;
 use rif_lex::tokens;
 use rif_refusals::{Fault, Refusal};
 use rif_script::{doc_part, read_job};
 use rif_values::OutOfMemory;
 use std::alloc::Global;
 
-/// One line on why a run of an input, or a check of it, was refused: the place, what was found there, and
-/// what could stand there or which limit was passed. It has no line feed. The cost is that of reading the
-/// input once more.
-pub fn note_on(alloc: Global, input: &[u8]) -> Result<Vec<u8>, OutOfMemory> {
+/// Lines on why a run of an input, or a check of it, was refused: the place and what is wrong there, the line of the
+/// input, and what else has to do with it. They end without a line feed, and an input that has no refusal has none.
+/// The cost is that of reading the input once more.
+pub fn note_on(alloc: Global, input: &[u8]) -> Result<Option<Vec<u8>>, OutOfMemory> {
     match read_job(alloc, input) {
-        Ok(_) => note_of(alloc, input, &Refusal::LeftOut { line: 1, col: 1 }),
-        Err(Fault::Refused(refusal)) => note_of(alloc, input, &refusal),
+        Ok(_) => Ok(None),
+        Err(Fault::Refused(refusal)) => {
+            let explanation = explanation_of(alloc, input, &refusal)?;
+            Ok(Some(lines_of(alloc, input, &explanation)?))
+        }
         Err(Fault::OutOfMemory) => Err(OutOfMemory),
     }
 }
 
-// The line on a refusal of an input.
-fn note_of(alloc: Global, input: &[u8], refusal: &Refusal) -> Result<Vec<u8>, OutOfMemory> {
+// What is said of a refusal of an input.
+fn explanation_of(
+    alloc: Global,
+    input: &[u8],
+    refusal: &Refusal,
+) -> Result<Explanation, OutOfMemory> {
     match refusal.number() {
-        4..=13 => note_of_document(alloc, doc_part(input), refusal),
+        4..=16 | 21 => explanation_in_document(alloc, doc_part(input), refusal),
         _ => explain_line(alloc, input, refusal),
     }
 }
 
-// The line on a refusal of a document.
-fn note_of_document(
+// What is said of a refusal of a document. Where the document can be read, it is a rule's.
+fn explanation_in_document(
     alloc: Global,
     document: &[u8],
     refusal: &Refusal,
-) -> Result<Vec<u8>, OutOfMemory> {
-    match tokens(alloc, document) {
-        Ok(found) => explain(alloc, found.as_slice(), document, refusal),
-        Err(_) => Err(OutOfMemory),
+) -> Result<Explanation, OutOfMemory> {
+    let Ok(found) = tokens(alloc, document) else {
+        return Err(OutOfMemory);
+    };
+    match read_doc(alloc, &found, document) {
+        Ok(doc) => explain_rule(alloc, found.as_slice(), document, &doc, refusal),
+        Err(Fault::Refused(_)) => explain(alloc, found.as_slice(), document, refusal),
+        Err(Fault::OutOfMemory) => Err(OutOfMemory),
     }
 }

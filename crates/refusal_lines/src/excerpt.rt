@@ -1,6 +1,7 @@
 //! Parts of a text, as they stand in a line for people.
 ghost use Rattle.std.specs.Prelude.{◌≤◌, length};
 
+use itoa::Buffer;
 use rif_values::OutOfMemory;
 
 // How many characters of a text are shown.
@@ -9,8 +10,15 @@ const MOST_CHARACTERS: u64 = 40;
 // How many characters of a built-in's name are shown, which is enough for its IRI.
 const MOST_OF_NAME: u64 = 100;
 
+/// Puts a number at the end of `out`.
+pub fn push_number(out: &mut Vec<u8>, number: u64) -> Result<(), OutOfMemory> {
+    let mut text = Buffer::new();
+    out.extend_from_slice(text.format(number).as_bytes())?;
+    Ok(())
+}
+
 /// Puts a text between backquotes at the end of `out`, as `push_short` does.
-pub(crate) fn push_quoted(out: &mut Vec<u8>, text: &[u8]) -> Result<(), OutOfMemory> {
+pub fn push_quoted(out: &mut Vec<u8>, text: &[u8]) -> Result<(), OutOfMemory> {
     out.push(b'`')?;
     push_short(out, text)?;
     out.push(b'`')?;
@@ -19,12 +27,12 @@ pub(crate) fn push_quoted(out: &mut Vec<u8>, text: &[u8]) -> Result<(), OutOfMem
 
 /// Puts at most 40 characters of a text at the end of `out`, with `..` behind where there are more, and a space
 /// in place of each control character.
-pub(crate) fn push_short(out: &mut Vec<u8>, text: &[u8]) -> Result<(), OutOfMemory> {
+pub fn push_short(out: &mut Vec<u8>, text: &[u8]) -> Result<(), OutOfMemory> {
     push_cut(out, text, MOST_CHARACTERS)
 }
 
 /// The same with more characters, for a built-in's name.
-pub(crate) fn push_name(out: &mut Vec<u8>, name: &[u8]) -> Result<(), OutOfMemory> {
+pub fn push_name(out: &mut Vec<u8>, name: &[u8]) -> Result<(), OutOfMemory> {
     push_cut(out, name, MOST_OF_NAME)
 }
 
@@ -40,46 +48,41 @@ fn push_cut(out: &mut Vec<u8>, text: &[u8], most: u64) -> Result<(), OutOfMemory
 }
 
 /// The text from a place on; lines and columns are counted from 1, columns in characters.
-pub(crate) fn text_at(bytes: &[u8], line: u64, col: u64) -> &[u8] {
+pub fn text_at(bytes: &[u8], line: u64, col: u64) -> &[u8] {
     let text = lines_from(bytes, line);
     &text[length_of(text, col.saturating_sub(1))..]
 }
 
-/// The text of a line, without the white space at its ends.
-pub(crate) fn line_at(bytes: &[u8], line: u64) -> &[u8] {
+/// The text of a line, without the white space at its end.
+pub fn line_of(bytes: &[u8], line: u64) -> &[u8] {
     let text = lines_from(bytes, line);
     match text.iter().position(|byte| *byte == b'\n') {
-        Some(end) => text[..end].trim_ascii(),
-        None => text.trim_ascii(),
+        Some(end) => text[..end].trim_ascii_end(),
+        None => text.trim_ascii_end(),
     }
 }
 
-/// What of a text stands before the first bracket or white space behind its first character.
-pub(crate) fn before_break(text: &[u8]) -> &[u8] {
-    for at in 1..text.len() {
-        if is_break(text[at]) {
-            return &text[..at];
+/// The number of the last line of a text, and what it has.
+pub fn text_of_line(bytes: &[u8]) -> (u64, &[u8]) {
+    let mut line = 1u64;
+    let mut text = bytes;
+    for _ in 0..bytes.len() {
+        match text.iter().position(|byte| *byte == b'\n') {
+            Some(end) => text = &text[end + 1..],
+            None => return (line, text),
         }
+        line = line.saturating_add(1);
     }
-    text
+    (line, text)
 }
 
-/// Whether the string that a text begins with is closed in its line.
-pub(crate) fn is_string_closed(text: &[u8]) -> bool {
-    let mut escaped = true;
-    for byte in text {
-        match *byte {
-            b'\n' => return false,
-            b'"' if !escaped => return true,
-            b'\\' => escaped = !escaped,
-            _ => escaped = false,
-        }
-    }
-    false
+/// How many characters a text has.
+pub fn count_of(text: &[u8]) -> u64 {
+    text.iter().filter(|byte| !is_continuation(**byte)).count() as u64
 }
 
-// How many bytes the first so many characters of a text have, or all where it has fewer.
-fn length_of(text: &[u8], characters: u64) -> usize
+/// How many bytes the first so many characters of a text have, or all where it has fewer.
+pub fn length_of(text: &[u8], characters: u64) -> usize
     ensures { result ≤ length text.now }
 {
     let mut left = characters;
@@ -92,14 +95,6 @@ fn length_of(text: &[u8], characters: u64) -> usize
         }
     }
     text.len()
-}
-
-// A bracket, or white space between tokens.
-fn is_break(byte: u8) -> bool {
-    match byte {
-        b'(' | b')' | b'[' | b']' | b' ' | b'\t' | b'\r' | b'\n' => true,
-        _ => false,
-    }
 }
 
 // Whether a byte isn't the first of its character.
