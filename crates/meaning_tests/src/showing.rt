@@ -1,5 +1,6 @@
 //! What the tests find, as text: a word for each fact, row or instance, with a space behind it.
 use prd_relation::Plain;
+use rif_facts::Facts;
 use rif_values::{Binding, Delta, Fact, Instance, OutOfMemory, write_const, write_fact};
 use std::alloc::Global;
 
@@ -16,6 +17,13 @@ pub fn show_facts(
         out.push(b' ')?;
     }
     Ok(())
+}
+
+/// A state's facts, in order.
+pub fn facts_text(alloc: Global, facts: &Facts) -> Result<Vec<u8>, OutOfMemory> {
+    let mut out = Vec::new(alloc);
+    show_facts(alloc, &mut out, "", facts.to_list(alloc)?.as_slice())?;
+    Ok(out)
 }
 
 pub fn delta_text(alloc: Global, delta: &Delta) -> Result<Vec<u8>, OutOfMemory> {

@@ -1,5 +1,6 @@
 pub mod ActLemmas
 pub mod AllowedLemmas
+pub mod BestLemmas
 pub mod ChoiceLemmas
 pub mod ChosenLemmas
 pub mod HistoryLemmas

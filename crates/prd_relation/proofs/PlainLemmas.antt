@@ -2,14 +2,17 @@
 use Rattle.std.proofs.Common.{◌≡◌, ◌∙◌, ℕ, zero, suc, ◌+◌, ◌<◌, ◌≤◌, Bool, true, false, if◌then◌else◌, ◌&&◌, ◌||◌}
 use Rattle.std.proofs.Common.{List, [], ◌∷◌, ◌++◌, map, reverse, length, get_or, slice_get, Some, refl, ap, sym}
 use Rattle.std.proofs.Common.{subst, add-one, arith}
+use Rattle.std.specs.List.{HoldsAt}
 use Rattle.std.specs.Ordering.{eq_by_cmp}
+use Rattle.std.specs.declared.cmp.Ordering.TheVariants.{Equal}
 use Rattle.std.specs.declared.option.Option.{Option}
 use Rattle.std.proofs.lemmas.List.{reverse-append}
+use Rattle.std.proofs.lemmas.Option.{slice_get-get_or}
 use Rattle.rif_values.proofs.CallerLemmas.{total_instances, exact_instances}
 use Rattle.rif_sets.proofs.CallerLemmas.{equal_is, equal_itself}
 use Rattle.rif_values.specs.declared.instance.Instance.{Instance}
 use Rattle.rif_values.specs.InstanceOrder.{instance_cmp}
-use Rattle.rif_values.specs.Sets.{has}
+use Rattle.rif_values.specs.Sets.{has, IsSet}
 use Rattle.prd_relation.specs.declared.mark.Mark.{Mark}
 use Rattle.prd_relation.specs.declared.moment.Moment.{Moment}
 use Rattle.prd_relation.specs.History.{newest_conflict_set, has_instance, is_pick, age_of, is_refracted}
@@ -17,17 +20,11 @@ use Rattle.prd_relation.specs.Layout.{mark_of, next_mark}
 
 -- ---- where an instance is found
 
-got : {X : Type 0} (xs : List X) (n : ℕ) (x : X) → n < length xs → x ≡ get_or xs n x → slice_get xs n ≡ Some x
-got [] n x within is = absurd (omega arith)
-got (y ∷ xs) zero x within is = ap Some (sym is)
-got (y ∷ xs) (suc n) x within is = got xs n x (omega arith) is
-
 -- what compares alike with an instance is it
-pub found_at : (xs : List Instance) (n : ℕ) (x i : Instance) → n < length xs → x ≡ get_or xs n x
-    → eq_by_cmp instance_cmp i x ≡ true
-    → slice_get xs n ≡ Some i
-found_at xs n x i within is same = got xs n x within is
-    ∙ ap Some (sym (equal_is total_instances exact_instances i x same))
+pub found_at : (xs : List Instance) (n : ℕ) (i : Instance) → n < length xs
+    → HoldsAt (λ x. instance_cmp x i ≡ Equal) xs n → slice_get xs n ≡ Some i
+found_at xs n i within alike =
+    slice_get-get_or xs n i within ∙ ap Some (exact_instances (get_or xs n i) i (alike i))
 
 has_at : (xs : List Instance) (n : ℕ) (i : Instance) → slice_get xs n ≡ Some i → has instance_cmp xs i ≡ true
 has_at [] n i at = absurd (cc at)
@@ -108,14 +105,17 @@ next_all pick ms m (x ∷ xs) same inside =
     λ k. here k ∷ later k
 
 -- the marks after one more state
-pub marks_pushed : (old new : List Moment) (m : Moment) (marks : List Mark) → new ≡ old ++ m ∷ []
+pub marks_pushed : (old new : List Moment) (m : Moment) (marks : List Mark) → IsSet instance_cmp m.conflict_set
+    → new ≡ old ++ m ∷ []
     → marks ≡ map (next_mark m.pick (reverse old)) m.conflict_set
     → (0 < length new) × (marks ≡ map (mark_of (reverse new)) (newest_conflict_set (reverse new)))
-marks_pushed old new m marks pushed are =
+    × IsSet instance_cmp (newest_conflict_set (reverse new))
+marks_pushed old new m marks in_order pushed are =
     let turned : reverse new ≡ m ∷ reverse old = ap reverse pushed ∙ reverse-append old (m ∷ []) in (
       subst (λ (ms : List Moment). 0 < length ms) (sym pushed) (some old),
       are ∙ next_all m.pick (reverse old) m m.conflict_set refl (λ i there. there)
           ∙ ap (λ (ms : List Moment). map (mark_of ms) (newest_conflict_set ms)) (sym turned),
+      subst (λ (ms : List Moment). IsSet instance_cmp (newest_conflict_set ms)) (sym turned) in_order,
     )
   where
     some : (xs : List Moment) → 0 < length (xs ++ m ∷ [])

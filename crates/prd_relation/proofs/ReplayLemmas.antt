@@ -89,7 +89,7 @@ pub ends : (system : RuleSystem) (given left : List (List Entry)) (turns : List 
     → left ≡ []
     → IsReplayed system given left false turns plain
     → (all : List (List Entry)) × IsReplay system given all × (turns ≡ run_of system all)
-    × (length plain.facts ≡ facts_at_end system all) × (length plain.facts ≡ fact_count_of turns)
+    × (length plain.facts.list ≡ facts_at_end system all) × (length plain.facts.list ≡ fact_count_of turns)
 ends system given left turns plain none replayed =
     let done : IsReplayed system given [] false turns plain =
     subst (λ (rest : List (List Entry)). IsReplayed system given rest false turns plain) none replayed in

@@ -43,7 +43,7 @@ pub shows_in : (system : RuleSystem) (old new : PlainSession) (s : Session) (sta
     → new ≡ record old { state = state } → Shows system old s → Shows system new (record s { state = state })
 shows_in system old new s state is shown = record {
   state = ap (λ (p : PlainSession). p.state) is;
-  facts = ap (λ (p : PlainSession). p.facts) is ∙ shown.facts;
+  facts = ap (λ (p : PlainSession). p.facts.list) is ∙ shown.facts;
   moments = ap (λ (p : PlainSession). p.history) is ∙ shown.moments;
   made = ap (λ (p : PlainSession). p.made) is ∙ shown.made;
 }

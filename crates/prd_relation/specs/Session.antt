@@ -14,7 +14,7 @@ use Rattle.prd_relation.specs.Turns.{Session, Outcome}
 
 pub record Shows (system : RuleSystem) (plain : PlainSession) (session : Session) : Type 0 where
   pub state : plain.state ≡ session.state
-  pub facts : plain.facts ≡ newest_facts session.history
+  pub facts : plain.facts.list ≡ newest_facts session.history
   pub moments : plain.history ≡ moments_of system session.history
   pub made : plain.made ≡ session.made
 

@@ -1,9 +1,11 @@
-//! The choice of the instance that is picked, by the definition's steps. This is the plain way: each step
-//! compares all with all.
+//! The choice of the instance that is picked, by the definition's steps. Each step goes over the instances twice: to
+//! find the best that one of them has, and to keep those that have it.
 ghost use Rattle.std.specs.Prelude.{◌≡◌, ◌++◌, ◌∷◌, [], map, IfOk, OnOk, if◌then◌else◌};
 ghost use Rattle.prd_relation.specs.Choice.{best_by, chosen_instance, unrefracted_instances};
 ghost use Rattle.prd_relation.specs.History.{newest_conflict_set};
-ghost use Rattle.prd_relation.specs.Layout.{candidate_of, is_outranked, is_staler};
+ghost use Rattle.prd_relation.specs.Layout.{candidate_of, is_above, is_below, is_first_or_above, is_first_or_below, is_outranked};
+ghost use Rattle.prd_relation.specs.Layout.{is_staler};
+ghost use Rattle.prd_relation.specs.declared.candidate.Candidate.{Candidate};
 ghost use Rattle.prd_relation.specs.RuleSystem.{system_of};
 ghost use Rattle.std.specs.List.{list_any};
 
@@ -16,7 +18,7 @@ use std::alloc::Global;
 
 /// The instance to be picked next, or None where each instance of the newest conflict set is refracted.
 ///
-/// It copies the instances that aren't refracted, and compares each with each twice.
+/// It copies the instances that aren't refracted, and its time grows as their number and that of the others.
 ///
 /// Source: RIF-PRD, "Conflict resolution", rif:forwardChaining; the tie break is our own
 /// (docs/PROFILE.md, "Tie break").
@@ -94,21 +96,46 @@ fn highest_candidates(
 ) -> Result<Vec<Candidate>, OutOfMemory>
     ensures { IfOk result (λ best. best.items ≡ best_by is_outranked candidates.now) }
 {
+    let greatest = greatest_priority(candidates);
     let mut best = Vec::new(alloc);
     for candidate in candidates {
-        if !has_higher(candidates, candidate) {
+        if !is_below(greatest, candidate) {
             best.push(candidate.copy()?)?;
         }
     }
     Ok(best)
 }
 
-fn has_higher(candidates: &[Candidate], candidate: &Candidate) -> bool
-    ensures { result ≡ list_any (is_outranked candidate.now) candidates.now }
+// The greatest of their priorities, where there is one.
+fn greatest_priority(candidates: &[Candidate]) -> Option<i32>
+    ensures { (c : Candidate) → is_below result c ≡ list_any (is_outranked c) candidates.now }
 {
-    candidates
-        .iter()
-        .any(|other| candidate.priority.cmp(&other.priority).is_lt())
+    let mut greatest = None;
+    for candidate in candidates {
+        if is_first_or_above(greatest, candidate.priority) {
+            greatest = Some(candidate.priority);
+        }
+    }
+    greatest
+}
+
+fn is_first_or_above(greatest: Option<i32>, priority: i32) -> bool
+    ensures { result ≡ is_first_or_above greatest priority }
+{
+    match greatest {
+        Some(greatest) => greatest.cmp(&priority).is_lt(),
+        None => true,
+    }
+}
+
+// Whether its priority is below the greatest, where there is one.
+fn is_below(greatest: Option<i32>, candidate: &Candidate) -> bool
+    ensures { result ≡ is_below greatest candidate.now }
+{
+    match greatest {
+        Some(greatest) => candidate.priority.cmp(&greatest).is_lt(),
+        None => false,
+    }
 }
 
 // Those of the least age.
@@ -118,17 +145,44 @@ fn youngest_candidates(
 ) -> Result<Vec<Candidate>, OutOfMemory>
     ensures { IfOk result (λ best. best.items ≡ best_by is_staler candidates.now) }
 {
+    let least = least_age(candidates);
     let mut best = Vec::new(alloc);
     for candidate in candidates {
-        if !has_younger(candidates, candidate) {
+        if !is_above(least, candidate) {
             best.push(candidate.copy()?)?;
         }
     }
     Ok(best)
 }
 
-fn has_younger(candidates: &[Candidate], candidate: &Candidate) -> bool
-    ensures { result ≡ list_any (is_staler candidate.now) candidates.now }
+// The least of their ages, where there is one.
+fn least_age(candidates: &[Candidate]) -> Option<u64>
+    ensures { (c : Candidate) → is_above result c ≡ list_any (is_staler c) candidates.now }
 {
-    candidates.iter().any(|other| other.age < candidate.age)
+    let mut least = None;
+    for candidate in candidates {
+        if is_first_or_below(least, candidate.age) {
+            least = Some(candidate.age);
+        }
+    }
+    least
+}
+
+fn is_first_or_below(least: Option<u64>, age: u64) -> bool
+    ensures { result ≡ is_first_or_below least age }
+{
+    match least {
+        Some(least) => age < least,
+        None => true,
+    }
+}
+
+// Whether its age is above the least, where there is one.
+fn is_above(least: Option<u64>, candidate: &Candidate) -> bool
+    ensures { result ≡ is_above least candidate.now }
+{
+    match least {
+        Some(least) => least < candidate.age,
+        None => false,
+    }
 }

@@ -1,7 +1,7 @@
 ghost use Rattle.std.specs.Prelude.{◌≡◌, ◌<◌, ◌∷◌, map, length, IfOk, IfSome, IfNone, OnOk, OnErr, Some, false};
 ghost use Rattle.std.specs.Prelude.{slice_get};
 ghost use Rattle.rif_values.specs.InstanceOrder.{instance_cmp};
-ghost use Rattle.rif_values.specs.Sets.{has};
+ghost use Rattle.rif_values.specs.Sets.{has, IsSet};
 ghost use Rattle.prd_relation.specs.History.{first_history, moments_of, newest_conflict_set, is_pick};
 ghost use Rattle.prd_relation.specs.Layout.{mark_of, next_mark};
 ghost use Rattle.prd_relation.specs.RuleSystem.{system_of};
@@ -10,6 +10,7 @@ use crate::mark::Mark;
 use crate::moment::Moment;
 use rif_facts::Facts;
 use rif_match::list_instances;
+use rif_sets::find_in_set;
 use rif_values::{Instance, OutOfMemory};
 use safe_rules::SafeDoc;
 use std::alloc::Global;
@@ -30,6 +31,8 @@ pub struct Plain {
 
 impl Model for Plain {
     ghost use Rattle.std.specs.Prelude.{◌≡◌, ◌<◌, List, map, reverse, length};
+    ghost use Rattle.rif_values.specs.InstanceOrder.{instance_cmp};
+    ghost use Rattle.rif_values.specs.Sets.{IsSet};
     ghost use Rattle.prd_relation.specs.declared.moment.Moment.{Moment};
     ghost use Rattle.prd_relation.specs.History.{newest_conflict_set};
     ghost use Rattle.prd_relation.specs.Layout.{mark_of};
@@ -40,7 +43,8 @@ impl Model for Plain {
 
     ghost invariant = { λ plain. (0 < length plain.moments.items) ×
         (plain.marks.items ≡ map (mark_of (reverse plain.moments.items))
-        (newest_conflict_set (reverse plain.moments.items))) };
+        (newest_conflict_set (reverse plain.moments.items))) ×
+        IsSet instance_cmp (newest_conflict_set (reverse plain.moments.items)) };
 }
 
 impl Plain {
@@ -69,7 +73,7 @@ impl Plain {
     /// of memory the history is as before.
     ///
     /// It lists the state's conflict set from scratch, and looks for each of its instances in the one
-    /// before, one after the other: the comparisons are the product of the two lengths.
+    /// before, by as many comparisons as the logarithm of its length.
     pub fn push(
         &mut self,
         alloc: Global,
@@ -78,7 +82,7 @@ impl Plain {
         pick: Option<Instance>,
     ) -> Result<(), OutOfMemory>
         ensures ok { OnOk result (self.new
-            ≡ record { conflict_set = (system_of doc.now).instances facts.now; pick = pick } ∷ self.old) }
+            ≡ record { conflict_set = (system_of doc.now).instances facts.now.list; pick = pick } ∷ self.old) }
         ensures err { OnErr result (self.new ≡ self.old) }
     {
         let conflict_set = list_instances(alloc, doc, facts)?;
@@ -88,9 +92,10 @@ impl Plain {
         Ok(())
     }
 
-    /// The newest conflict set, in constant time.
+    /// The newest conflict set, in order, in constant time.
     pub fn conflict_set(&self) -> &[Instance]
-        ensures { result.now ≡ newest_conflict_set self.now }
+        ensures instances { result.now ≡ newest_conflict_set self.now }
+        ensures ordered { IsSet instance_cmp result.now }
     {
         match self.moments.as_slice().last() {
             Some(newest) => newest.conflict_set.as_slice(),
@@ -160,13 +165,12 @@ fn has_fired(pick: &Option<Instance>, instance: &Instance) -> bool
 
 // Where the instance stands among some instances.
 fn place_in(instances: &[Instance], instance: &Instance) -> Option<usize>
+    requires { IsSet instance_cmp instances.now }
     ensures some { IfSome result (λ place. slice_get instances.now place ≡ Some instance.now) }
     ensures none { IfNone result (has instance_cmp instances.now instance.now ≡ false) }
 {
-    for (place, other) in instances.iter().enumerate() {
-        if instance.cmp(other).is_eq() {
-            return Some(place);
-        }
+    match find_in_set(instances, instance) {
+        Ok(place) => Some(place),
+        Err(_) => None,
     }
-    None
 }

@@ -2,9 +2,7 @@ ghost use Rattle.std.specs.Prelude.{◌≡◌, ◌≤◌, ◌^◌};
 
 use crate::choosing::choose_plain;
 use crate::plain::Plain;
-use crate::steps::{
-    block_of_instance, changes_of, effect_of, ending, facts_after, made_after, state_after,
-};
+use crate::steps::{block_of_instance, changes_of, do_block, ending, made_after, state_after};
 use rif_facts::Facts;
 use rif_values::{Instance, OutOfMemory};
 use safe_rules::SafeDoc;
@@ -84,10 +82,8 @@ impl PlainSession {
         if changes.is_empty() {
             return Ok(());
         }
-        let facts = self.facts.after(alloc, changes.as_slice())?;
-        self.history.push(alloc, doc, &facts, None)?;
-        self.facts = facts;
-        Ok(())
+        self.facts.apply(alloc, changes.as_slice())?;
+        self.history.push(alloc, doc, &self.facts, None)
     }
 
     // Settles the act, which the end of the batch may have fixed.
@@ -168,12 +164,10 @@ impl PlainSession {
         ensures state { OnOk result (self.new.state ≡ next) }
     {
         let block = block_of_instance(alloc, doc, &instance, &self.facts, self.made)?;
-        let facts = facts_after(alloc, &self.facts, &block)?;
-        let effect = effect_of(alloc, &self.facts, &facts, &block)?;
+        let effect = do_block(alloc, &mut self.facts, &block)?;
         self.history
-            .push(alloc, doc, &facts, Some(instance.copy()?))?;
+            .push(alloc, doc, &self.facts, Some(instance.copy()?))?;
         self.state = next;
-        self.facts = facts;
         self.made = made_after(self.made, &block);
         Ok(Settled {
             act: Act::Fired,

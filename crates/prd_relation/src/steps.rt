@@ -76,7 +76,7 @@ pub fn block_of_instance(
     made: u64,
 ) -> Result<Block, OutOfMemory>
     requires { made ≤ 2 ^ 63 }
-    ensures block { IfOk result (λ block. block ≡ (system_of doc.now).block instance.now facts.now made) }
+    ensures block { IfOk result (λ block. block ≡ (system_of doc.now).block instance.now facts.now.list made) }
     ensures counted { IfOk result (HasMadeAtMost (2 ^ 63)) }
 {
     match nth(doc.rules(), instance.rule) {
@@ -85,29 +85,14 @@ pub fn block_of_instance(
     }
 }
 
-/// The facts after a block.
-pub fn facts_after(alloc: Global, old: &Facts, block: &Block) -> Result<Facts, OutOfMemory>
-    ensures { IfOk result (λ facts. facts ≡ facts_after_block old.now block.now) }
-{
-    match block {
-        Block::Void => old.copy(),
-        Block::Changes { list, made: _ } => old.after(alloc, list.as_slice()),
-    }
-}
-
-/// What a block did to the facts.
-pub fn effect_of(
-    alloc: Global,
-    old: &Facts,
-    new: &Facts,
-    block: &Block,
-) -> Result<Effect, OutOfMemory>
-    requires { new.now ≡ facts_after_block old.now block.now }
-    ensures { IfOk result (λ effect. effect ≡ effect_of_block old.now block.now) }
+/// Does a block, and answers what it did to the facts.
+pub fn do_block(alloc: Global, facts: &mut Facts, block: &Block) -> Result<Effect, OutOfMemory>
+    ensures effect { IfOk result (λ effect. effect ≡ effect_of_block facts.old.list block.now) }
+    ensures facts { OnOk result (facts.new.list ≡ facts_after_block facts.old.list block.now) }
 {
     match block {
         Block::Void => Ok(Effect::Void),
-        Block::Changes { .. } => Ok(Effect::Net(old.net_change_to(alloc, new)?)),
+        Block::Changes { list, made: _ } => Ok(Effect::Net(facts.apply(alloc, list.as_slice())?)),
     }
 }
 

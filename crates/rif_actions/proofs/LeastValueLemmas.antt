@@ -2,7 +2,7 @@
 use Rattle.std.proofs.Common.{◌≡◌, ◌≢◌, ◌∙◌, Bool, true, false, cond, ◌&&◌, ◌||◌, List, [], ◌∷◌, slice_get}
 use Rattle.std.proofs.Common.{Some, None}
 use Rattle.std.proofs.Common.{refl, ap, sym, subst}
-use Rattle.std.specs.List.{cons_option, filter_map}
+use Rattle.std.specs.List.{cons_option, filter, filter_map}
 use Rattle.std.specs.declared.cmp.Ordering.{Ordering}
 use Rattle.std.specs.declared.cmp.Ordering.TheVariants.{Less, Equal, Greater}
 use Rattle.std.specs.Ordering.{is_eq, is_gt, ordering_reverse, ordering_then}
@@ -10,12 +10,13 @@ use Rattle.std.specs.declared.option.Option.{Option}
 use Rattle.rif_values.specs.declared.constant.Const.{Const}
 use Rattle.rif_values.specs.declared.fact.Fact.{Fact}
 use Rattle.rif_values.specs.declared.fact.Fact.TheVariants.{Atom, Frame, Member}
-use Rattle.rif_values.specs.Facts.{IsFacts, has_fact, same_const, same_fact}
+use Rattle.rif_values.specs.Facts.{IsFacts, has_fact, is_slot_value, same_const, same_fact}
 use Rattle.rif_values.specs.Order.{const_cmp, fact_cmp}
 use Rattle.rif_values.proofs.CallerLemmas.{total_consts, exact_consts, total_facts, exact_facts}
 use Rattle.rif_sets.proofs.CallerLemmas.{equal_is, equal_itself, first_is_least, set_rest}
 use Rattle.rif_actions.specs.Blocks.{least_value, slot_value}
 use Rattle.rif_actions.specs.Laws.{IsLeastValue}
+use Rattle.rif_actions.specs.Uses.{value_of_first}
 
 both : (a b : Bool) → (a && b) ≡ true → (a ≡ true) × (b ≡ true)
 both true b h = (refl, h)
@@ -159,3 +160,19 @@ least_is (f ∷ w) o s v set least =
 
 pub least_value_is : IsLeastValue
 least_value_is w o s v set = (is_least w o s v set, least_is w o s v set)
+
+-- ---- among the frames of the object and slot
+
+-- the least value is that of the first of these
+pub least_is_first : (o s : Const) (w : List Fact)
+    → value_of_first (filter (is_slot_value o s) w) ≡ least_value w o s
+least_is_first o s [] = refl
+least_is_first o s (Atom p cs ∷ w) = least_is_first o s w
+least_is_first o s (Frame p t v ∷ w) = at (same_const o p && same_const s t) (least_is_first o s w)
+  where
+    at : (b : Bool) → value_of_first (filter (is_slot_value o s) w) ≡ least_value w o s
+        → value_of_first (cond b (Frame p t v ∷ filter (is_slot_value o s) w) (filter (is_slot_value o s) w))
+        ≡ slice_get (cons_option (cond b (Some v) None) (filter_map (slot_value o s) w)) 0
+    at true later = refl
+    at false later = later
+least_is_first o s (Member p c ∷ w) = least_is_first o s w

@@ -6,17 +6,17 @@ ghost use Rattle.rif_values.specs.declared.fact.Fact.TheVariants.{Atom, Member};
 ghost use Rattle.rif_values.specs.declared.change.Change.TheVariants.{RetractSlot, RetractObject};
 ghost use Rattle.rif_tree.specs.declared.rule.Decl.TheVariants.{New};
 ghost use Rattle.rif_builtins.specs.Values.{value_of, values_of};
-ghost use Rattle.rif_actions.specs.Blocks.{of_both, least_value, slot_value, after_decl, after_decls, slot_changes};
+ghost use Rattle.rif_actions.specs.Blocks.{of_both, least_value, after_decl, after_decls, slot_changes};
 ghost use Rattle.rif_actions.specs.Blocks.{target_changes, action_changes, changes_of, block_in, block_of};
-ghost use Rattle.rif_actions.specs.Uses.{fact_change, frame_change, slot_change, HasMadeAtMost};
+ghost use Rattle.rif_actions.specs.Uses.{fact_change, value_of_first, frame_change, slot_change, HasMadeAtMost};
 
 use crate::changes::Block;
 use crate::scope::Scope;
 use crate::uses::{FactUse, FrameUse};
 use rif_builtins::{value_in, values_in};
-use rif_facts::Facts;
+use rif_facts::{Facts, Key};
 use rif_tree::{Action, Decl, Target, Term};
-use rif_values::{Binding, Change, Const, Fact, Listed, OutOfMemory, Shared, are_same, pairs_with};
+use rif_values::{Binding, Change, Const, Fact, Listed, OutOfMemory, Shared, pairs_with};
 use safe_rules::SafeRule;
 use std::alloc::Global;
 
@@ -25,7 +25,7 @@ const GREATEST_MADE: u64 = 1 << 63;
 
 /// The block of a rule for a row at a state of facts, where this many objects were made before.
 ///
-/// A declared slot costs a walk over the facts.
+/// A declared slot costs as much as the logarithm of the number of facts, and the number of the slot's values.
 ///
 /// Source: RIF-PRD, "Action blocks" and "Operational semantics of atomic actions"; the objects that `New`
 /// makes, the least value of a declared slot and void blocks are our own (docs/PROFILE.md, "Actions").
@@ -37,14 +37,14 @@ pub fn block(
     made: u64,
 ) -> Result<Block, OutOfMemory>
     requires { made ≤ 2 ^ 63 }
-    ensures block { IfOk result (λ block. block ≡ block_of rule.now row.now facts.now made) }
+    ensures block { IfOk result (λ block. block ≡ block_of rule.now row.now facts.now.list made) }
     ensures made { IfOk result (HasMadeAtMost (2 ^ 63)) }
 {
     let start = Scope {
         row: Listed::from_vec(row.pairs().to_vec(alloc)?),
         made,
     };
-    match scope_after(alloc, facts.as_slice(), rule.decls.as_slice(), start)? {
+    match scope_after(alloc, facts, rule.decls.as_slice(), start)? {
         Some(scope) => block_of_actions(alloc, rule.actions.as_slice(), &scope),
         None => Ok(Block::Void),
     }
@@ -67,12 +67,12 @@ fn block_of_actions(alloc: Global, actions: &[Action], scope: &Scope) -> Result<
 // The scope after some declarations.
 fn scope_after(
     alloc: Global,
-    facts: &[Fact],
+    facts: &Facts,
     decls: &[Decl],
     start: Scope,
 ) -> Result<Option<Scope>, OutOfMemory>
     requires { start.made ≤ 2 ^ 63 }
-    ensures scope { IfOk result (λ found. found ≡ after_decls facts.now decls.now start) }
+    ensures scope { IfOk result (λ found. found ≡ after_decls facts.now.list decls.now start) }
     ensures made { IfOk result (λ found. IfSome found (λ scope. scope.made ≤ 2 ^ 63)) }
 {
     let mut scope = start;
@@ -87,12 +87,12 @@ fn scope_after(
 
 fn scope_after_one(
     alloc: Global,
-    facts: &[Fact],
+    facts: &Facts,
     decl: &Decl,
     scope: &Scope,
 ) -> Result<Option<Scope>, OutOfMemory>
     requires { scope.now.made ≤ 2 ^ 63 }
-    ensures scope { IfOk result (λ found. found ≡ after_decl facts.now decl.now scope.now) }
+    ensures scope { IfOk result (λ found. found ≡ after_decl facts.now.list decl.now scope.now) }
     ensures made { IfOk result (λ found. IfSome found (λ next. next.made ≤ 2 ^ 63)) }
 {
     match decl {
@@ -127,45 +127,42 @@ fn scope_with_object(alloc: Global, var: u32, scope: &Scope) -> Result<Option<Sc
 // The least value of the slot that two terms name.
 fn slot_of(
     alloc: Global,
-    facts: &[Fact],
+    facts: &Facts,
     row: &[(u32, Const)],
     object: &Term,
     slot: &Term,
 ) -> Result<Option<Const>, OutOfMemory>
     ensures { IfOk result (λ found. found
-        ≡ of_both (value_of row.now object.now) (value_of row.now slot.now) (least_value facts.now)) }
+        ≡ of_both (value_of row.now object.now) (value_of row.now slot.now) (least_value facts.now.list)) }
 {
     match value_in(alloc, row, object)? {
         Some(of) => match value_in(alloc, row, slot)? {
-            Some(at) => least_of_slot(facts, &of, &at),
+            Some(at) => least_of_slot(alloc, facts, of, at),
             None => Ok(None),
         },
         None => Ok(None),
     }
 }
 
-fn least_of_slot(facts: &[Fact], object: &Const, slot: &Const) -> Result<Option<Const>, OutOfMemory>
-    ensures { IfOk result (λ found. found ≡ least_value facts.now object.now slot.now) }
+// The frames of one object and slot stand in order of their values, so that the first has the least.
+fn least_of_slot(
+    alloc: Global,
+    facts: &Facts,
+    object: Const,
+    slot: Const,
+) -> Result<Option<Const>, OutOfMemory>
+    ensures { IfOk result (λ found. found ≡ least_value facts.now.list object slot) }
 {
-    for fact in facts {
-        if let Some(constant) = value_of_slot(object, slot, fact)? {
-            return Ok(Some(constant));
-        }
-    }
-    Ok(None)
+    let frames = facts.candidates(alloc, &Key::ObjectSlot(object, slot))?;
+    value_of_first(frames.as_slice())
 }
 
-// The value, where the fact is a frame of the object and slot.
-fn value_of_slot(object: &Const, slot: &Const, fact: &Fact) -> Result<Option<Const>, OutOfMemory>
-    ensures { IfOk result (λ found. found ≡ slot_value object.now slot.now fact.now) }
+// The value of the first of some frames.
+fn value_of_first(frames: &[Fact]) -> Result<Option<Const>, OutOfMemory>
+    ensures { IfOk result (λ found. found ≡ value_of_first frames.now) }
 {
-    match fact {
-        Fact::Frame(of, at, constant) => {
-            if are_same(object, of) && are_same(slot, at) {
-                return Ok(Some(constant.copy()?));
-            }
-            Ok(None)
-        }
+    match frames.first() {
+        Some(Fact::Frame(_, _, value)) => Ok(Some(value.copy()?)),
         _ => Ok(None),
     }
 }

@@ -1,2 +1,3 @@
 pub mod ConflictSet
 pub mod Laws
+pub mod Narrowing

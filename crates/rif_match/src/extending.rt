@@ -1,4 +1,4 @@
-//! Rows taken through formulas. This is the plain way: each pattern is tried on each fact for each row.
+//! Rows taken through formulas: for each row, a pattern is tried on the facts that its key names.
 ghost use Rattle.std.specs.Prelude.{◌≡◌, ◌++◌, [], ◌∷◌, IfOk, OnOk, map, filter, length, ◌==◌};
 ghost use Rattle.std.specs.List.{filter_map, flat_map};
 ghost use Rattle.rif_builtins.specs.Extensions.{base_of, matched, match_fact, in_turn, through, slots_of, equal_row};
@@ -7,25 +7,28 @@ ghost use Rattle.rif_values.specs.Bindings.{without_variables};
 ghost use Rattle.rif_builtins.specs.Values.{values_of};
 
 use crate::gathering::{push_found, push_kept};
+use crate::narrowing::narrowest_key;
 use rif_builtins::{Pattern, fact_match, holds, term_match, value, values};
+use rif_facts::Facts;
 use rif_tree::{Formula, Pred, Term};
-use rif_values::{Binding, Fact, OutOfMemory};
+use rif_values::{Binding, OutOfMemory};
 use sqlite_items::Items;
 use std::alloc::Global;
 
 /// The rows taken through a formula: each to the rows that extend it and satisfy the formula.
 ///
-/// The cost of a pattern is the number of rows times the number of facts.
+/// The cost of a pattern is, for each row, that of the facts that the narrowest key names which the row and the
+/// pattern's constants determine.
 ///
 /// Source: RIF-PRD, "Matching substitution" and "Condition satisfaction".
 #[cycle(through)]
 pub fn rows_through(
     alloc: Global,
-    facts: &[Fact],
+    facts: &Facts,
     formula: &Formula,
     rows: Vec<Binding>,
 ) -> Result<Vec<Binding>, OutOfMemory>
-    ensures { IfOk result (λ found. found.items ≡ through (base_of facts.now) formula.now rows.items) }
+    ensures { IfOk result (λ found. found.items ≡ through (base_of facts.now.list) formula.now rows.items) }
 {
     match formula {
         Formula::And(members) => rows_through_each(alloc, facts, members.as_slice(), rows),
@@ -60,12 +63,12 @@ pub fn rows_through(
 #[cycle(through)]
 fn rows_through_each(
     alloc: Global,
-    facts: &[Fact],
+    facts: &Facts,
     members: &[Formula],
     rows: Vec<Binding>,
 ) -> Result<Vec<Binding>, OutOfMemory>
     ensures { IfOk result
-        (λ found. found.items ≡ in_turn (map (through (base_of facts.now)) members.now) rows.items) }
+        (λ found. found.items ≡ in_turn (map (through (base_of facts.now.list)) members.now) rows.items) }
 {
     let mut found = rows;
     for member in members {
@@ -78,12 +81,12 @@ fn rows_through_each(
 #[cycle(through)]
 fn rows_through_any(
     alloc: Global,
-    facts: &[Fact],
+    facts: &Facts,
     branches: &[Formula],
     rows: &[Binding],
 ) -> Result<Vec<Binding>, OutOfMemory>
     ensures { IfOk result
-        (λ found. found.items ≡ flat_map (λ branch. through (base_of facts.now) branch rows.now) branches.now) }
+        (λ found. found.items ≡ flat_map (λ branch. through (base_of facts.now.list) branch rows.now) branches.now) }
 {
     let mut all = Vec::new(alloc);
     for branch in branches {
@@ -98,13 +101,13 @@ fn rows_through_any(
 #[cycle(through)]
 fn rows_outside(
     alloc: Global,
-    facts: &[Fact],
+    facts: &Facts,
     inner: &Formula,
     rows: &[Binding],
 ) -> Result<Vec<Binding>, OutOfMemory>
     ensures { IfOk result
         (λ found. found.items
-        ≡ filter (λ row. length (through (base_of facts.now) inner.now (row ∷ [])) == 0) rows.now) }
+        ≡ filter (λ row. length (through (base_of facts.now.list) inner.now (row ∷ [])) == 0) rows.now) }
 {
     let mut all = Vec::new(alloc);
     for row in rows {
@@ -118,11 +121,11 @@ fn rows_outside(
 #[cycle(through)]
 fn is_unsatisfied(
     alloc: Global,
-    facts: &[Fact],
+    facts: &Facts,
     inner: &Formula,
     row: &Binding,
 ) -> Result<bool, OutOfMemory>
-    ensures { IfOk result (λ none. none ≡ (length (through (base_of facts.now) inner.now (row.now ∷ [])) == 0)) }
+    ensures { IfOk result (λ none. none ≡ (length (through (base_of facts.now.list) inner.now (row.now ∷ [])) == 0)) }
 {
     let mut one = Vec::new(alloc);
     one.push(row.copy()?)?;
@@ -133,11 +136,11 @@ fn is_unsatisfied(
 // Each row with each fact that agrees with the pattern.
 fn rows_matching(
     alloc: Global,
-    facts: &[Fact],
+    facts: &Facts,
     pattern: &Pattern,
     rows: &[Binding],
 ) -> Result<Vec<Binding>, OutOfMemory>
-    ensures { IfOk result (λ found. found.items ≡ matched (base_of facts.now) pattern.now rows.now) }
+    ensures { IfOk result (λ found. found.items ≡ matched (base_of facts.now.list) pattern.now rows.now) }
 {
     let mut all = Vec::new(alloc);
     for row in rows {
@@ -148,14 +151,17 @@ fn rows_matching(
 
 fn push_matching(
     alloc: Global,
-    facts: &[Fact],
+    facts: &Facts,
     pattern: &Pattern,
     row: &Binding,
     all: &mut Vec<Binding>,
 ) -> Result<(), OutOfMemory>
-    ensures { OnOk result (all.new.items ≡ all.old.items ++ filter_map (match_fact pattern.now row.now) facts.now) }
+    ensures { OnOk result (all.new.items ≡ all.old.items ++ filter_map (match_fact pattern.now row.now) facts.now.list) }
 {
-    for fact in facts {
+    let key = narrowest_key(pattern, row)?;
+    let candidates = facts.candidates(alloc, &key)?;
+    let candidates = candidates.as_slice();
+    for fact in candidates {
         let found = fact_match(alloc, pattern, row, fact)?;
         push_found(all, found)?;
     }
@@ -165,14 +171,14 @@ fn push_matching(
 // The rows taken through the slots of a frame in turn.
 fn rows_through_slots(
     alloc: Global,
-    facts: &[Fact],
+    facts: &Facts,
     object: &Term,
     pairs: &[(Term, Term)],
     rows: Vec<Binding>,
 ) -> Result<Vec<Binding>, OutOfMemory>
     ensures { IfOk result
         (λ found. found.items
-        ≡ in_turn (map (matched (base_of facts.now)) (slots_of object.now pairs.now)) rows.items) }
+        ≡ in_turn (map (matched (base_of facts.now.list)) (slots_of object.now pairs.now)) rows.items) }
 {
     let mut found = rows;
     for pair in pairs {

@@ -13,8 +13,8 @@ use std::alloc::Global;
 
 /// The rows that extend the row and satisfy the formula, in order, each once.
 ///
-/// A pattern in the formula is tried on each fact for each row that comes to it, so the cost is up to the
-/// number of facts to the power of the number of patterns. What is found is then sorted.
+/// For each row that comes to a pattern, the pattern is tried on the facts that the narrowest key names which the
+/// row and the pattern's constants determine. What is found is then sorted.
 ///
 /// Source: RIF-PRD, "Matching substitution" and "Condition satisfaction".
 pub fn matches(
@@ -23,18 +23,17 @@ pub fn matches(
     row: &Binding,
     formula: &Formula,
 ) -> Result<Listed<Binding>, OutOfMemory>
-    ensures { IfOk result (λ rows. rows ≡ extensions_of (base_of facts.now) row.now formula.now) }
+    ensures { IfOk result (λ rows. rows ≡ extensions_of (base_of facts.now.list) row.now formula.now) }
 {
     let mut one = Vec::new(alloc);
     one.push(row.copy()?)?;
-    let found = rows_through(alloc, facts.as_slice(), formula, one)?;
+    let found = rows_through(alloc, facts, formula, one)?;
     sorted_set(alloc, found)
 }
 
 /// The conflict set of a state of facts: the instances of all rules, in order, each once.
 ///
-/// It lists them from scratch, whatever was listed before: for each rule a pattern of the condition is
-/// tried on each fact for each row that comes to it.
+/// It lists them from scratch, whatever was listed before, each rule's at the cost of `matches`.
 ///
 /// Source: RIF-PRD, "Operational semantics of a production rule system" and "Definitions and notational
 /// conventions".
@@ -43,7 +42,7 @@ pub fn list_instances(
     doc: &SafeDoc,
     facts: &Facts,
 ) -> Result<Listed<Instance>, OutOfMemory>
-    ensures { IfOk result (λ instances. instances ≡ conflict_set doc.now facts.now) }
+    ensures { IfOk result (λ instances. instances ≡ conflict_set doc.now facts.now.list) }
 {
     let mut all = Vec::new(alloc);
     for (place, rule) in doc.rules().iter().enumerate() {
@@ -67,7 +66,7 @@ fn rows_satisfying(
     facts: &Facts,
     rule: &SafeRule,
 ) -> Result<Listed<Binding>, OutOfMemory>
-    ensures { IfOk result (λ rows. rows ≡ rows_of (base_of facts.now) rule.now) }
+    ensures { IfOk result (λ rows. rows ≡ rows_of (base_of facts.now.list) rule.now) }
 {
     let unbound = Binding::new(alloc)?;
     matches(alloc, facts, &unbound, &rule.condition)

@@ -1,11 +1,11 @@
 //! Each call on small values that were worked by hand.
 use crate::reading::{changes_of, doc_of, facts_of};
-use crate::showing::{delta_text, history_text, show_facts, show_row};
+use crate::showing::{delta_text, facts_text, history_text, show_facts, show_row};
 use prd_relation::{Candidate, Plain, choose_plain};
-use rif_facts::Facts;
+use rif_facts::{Facts, Key};
 use rif_match::{list_instances, matches};
 use rif_refusals::Fault;
-use rif_values::Binding;
+use rif_values::{Binding, Const, Text};
 use safe_rules::SafeDoc;
 use std::alloc::Global;
 use std::test::Fail;
@@ -18,8 +18,7 @@ static STATE: &str = "a assert _y # _C\na assert _x[_s->_b]\na assert _x # _C\n\
 fn a_state_has_its_facts_in_order_each_once(rt: HostRuntime) -> Result<(), Fail> {
     let alloc = rt.alloc();
     let state = facts_of(alloc, STATE)?;
-    let mut shown = Vec::new(alloc);
-    show_facts(alloc, &mut shown, "", state.copy()?.as_slice())?;
+    let shown = facts_text(alloc, &state.copy(alloc)?)?;
     let wanted = "_p(_x) _x[_s->_a] _x[_s->_b] _x # _C _y # _C ";
     assert_eq!(rt; str::from_utf8(shown.as_slice())?, wanted);
     Ok(())
@@ -40,13 +39,71 @@ static CHANGES: &[(&str, &str)] = &[
 #[test]
 fn a_change_removes_and_adds_facts(rt: HostRuntime) -> Result<(), Fail> {
     let alloc = rt.alloc();
-    let old = facts_of(alloc, STATE)?;
     for (change, wanted) in CHANGES {
+        let mut state = facts_of(alloc, STATE)?;
         let line = format!(in alloc; "a {change}")?;
-        let new = old.after(alloc, changes_of(alloc, line.as_str())?.as_slice())?;
-        let shown = delta_text(alloc, &old.net_change_to(alloc, &new)?)?;
-        assert_eq!(rt; str::from_utf8(shown.as_slice())?, *wanted, "{change}");
+        let changes = changes_of(alloc, line.as_str())?;
+        let planned = delta_text(alloc, &state.delta(alloc, changes.as_slice())?)?;
+        assert_eq!(rt; str::from_utf8(planned.as_slice())?, *wanted, "{change}");
+        let done = delta_text(alloc, &state.apply(alloc, changes.as_slice())?)?;
+        assert_eq!(rt; str::from_utf8(done.as_slice())?, *wanted, "{change}");
+        let after = facts_of(alloc, format!(in alloc; "{STATE}{line}\n")?.as_str())?;
+        assert_eq!(rt; state.len(), after.len(), "{change}");
+        assert_eq!(rt; facts_text(alloc, &state)?.as_slice(), facts_text(alloc, &after)?.as_slice(), "{change}");
     }
+    Ok(())
+}
+
+/// Facts of each kind that share their names, and what each key names of them.
+static SHARED: &str = "a assert _a(1)\na assert _a(_b 2)\na assert _b(1)\na assert _a[_a->1]\na assert _a[_b->2]\n\
+    a assert _a[_b->1]\na assert _b[_a->3]\na assert _a # _b\na assert _b # _a\na assert _c # _b\n";
+
+#[test]
+fn keys_name_their_facts(rt: HostRuntime) -> Result<(), Fail> {
+    let alloc = rt.alloc();
+    let state = facts_of(alloc, SHARED)?;
+    let a = || Text::from_str(alloc, "a").map(|text| Const::Local(text));
+    let b = || Text::from_str(alloc, "b").map(|text| Const::Local(text));
+    let cases = [
+        (Key::Predicate(a()?), "_a(1) _a(_b 2) "),
+        (Key::Slot(a()?), "_a[_a->1] _b[_a->3] "),
+        (Key::Slot(b()?), "_a[_b->1] _a[_b->2] "),
+        (Key::ObjectSlot(a()?, b()?), "_a[_b->1] _a[_b->2] "),
+        (Key::Object(a()?), "_a[_a->1] _a[_b->1] _a[_b->2] _a # _b "),
+        (Key::Class(b()?), "_a # _b _c # _b "),
+        (
+            Key::Frames,
+            "_a[_a->1] _a[_b->1] _a[_b->2] _b[_a->3] ",
+        ),
+        (Key::Members, "_a # _b _b # _a _c # _b "),
+    ];
+    for (key, wanted) in &cases {
+        let mut shown = Vec::new(alloc);
+        show_facts(alloc, &mut shown, "", state.candidates(alloc, key)?.as_slice())?;
+        assert_eq!(rt; str::from_utf8(shown.as_slice())?, *wanted, "{key:?}");
+    }
+    Ok(())
+}
+
+#[test]
+fn room_is_used_by_the_change_that_it_was_made_for(rt: HostRuntime) -> Result<(), Fail> {
+    let alloc = rt.alloc();
+    let mut state = facts_of(alloc, STATE)?;
+    let before = facts_text(alloc, &state)?;
+    let added = changes_of(alloc, "a assert _z # _C\n")?;
+    let unused = state.delta(alloc, added.as_slice())?;
+    state.reserve(alloc, &unused)?;
+    assert_eq!(rt; facts_text(alloc, &state)?.as_slice(), before.as_slice());
+    let moved = changes_of(alloc, "a retract _x\na assert _w # _C\n")?;
+    let delta = state.delta(alloc, moved.as_slice())?;
+    let room = state.reserve(alloc, &delta)?;
+    assert_eq!(rt; facts_text(alloc, &state)?.as_slice(), before.as_slice());
+    state.commit(room);
+    let after = facts_of(
+        alloc,
+        format!(in alloc; "{STATE}a retract _x\na assert _w # _C\n")?.as_str(),
+    )?;
+    assert_eq!(rt; facts_text(alloc, &state)?.as_slice(), facts_text(alloc, &after)?.as_slice());
     Ok(())
 }
 

@@ -1,8 +1,7 @@
 use Rattle.std.proofs.Common.{◌≡◌, take, filter, not}
-use Rattle.std.specs.List.{list_any}
-use Rattle.prd_relation.specs.Layout.{is_outranked}
+use Rattle.prd_relation.specs.Layout.{is_below}
 use Rattle.prd_relation.proofs.choosing.highest_candidates.Given as goal
 
 abbrev pub invariant-loop-candidate : goal.invariant-loop-candidate
 invariant-loop-candidate l =
-    l.best.items ≡ filter (λ x. not (list_any (is_outranked x) l.candidates)) (take l.candidate-index l.candidates)
+    l.best.items ≡ filter (λ x. not (is_below l.greatest x)) (take l.candidate-index l.candidates)

@@ -15,7 +15,7 @@ rows_through-returns-in-Or t c =
 
 pub rows_through-returns-in-Holds : goal.rows_through-returns-in-Holds
 rows_through-returns-in-Holds t c =
-    let base = base_of c.args.facts.now in
+    let base = base_of c.args.facts.now.list in
     let pred = c.in-Holds.pred in
     let rows = c.args.rows.items in
     subst (λ (all : List Row). IfOk c.rows_where.result (λ found. found.items ≡ all))
@@ -27,7 +27,7 @@ rows_through-returns-in-Holds t c =
 
 pub rows_outside-loop-row-preserved : goal.rows_outside-loop-row-preserved
 rows_outside-loop-row-preserved t c =
-    kept_step (λ row. length (through (base_of c.args.facts.now) c.args.inner.now (row ∷ [])) == 0) c.args.rows.now
+    kept_step (λ row. length (through (base_of c.args.facts.now.list) c.args.inner.now (row ∷ [])) == 0) c.args.rows.now
     c.loop-row.row-index c.row-item.result
     c.in_ok-kept.kept c.loop-row.all.items c.push_kept.new.all.items c.loop-row-test.true c.row-item.is
     c.in_ok-kept.ensures

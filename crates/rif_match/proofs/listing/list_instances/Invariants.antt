@@ -6,4 +6,4 @@ use Rattle.rif_match.proofs.listing.list_instances.Given as goal
 abbrev pub invariant-loop-place : goal.invariant-loop-place
 invariant-loop-place l =
     l.all.items ++ instances_from (suc l.place) (drop l.place l.doc)
-    (base_of l.facts) ≡ conflict_set l.doc l.facts
+    (base_of l.facts.list) ≡ conflict_set l.doc l.facts.list

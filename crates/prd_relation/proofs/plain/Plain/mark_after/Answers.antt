@@ -17,7 +17,7 @@ marks_of ms = map (mark_of ms) (newest_conflict_set ms)
 pub overflow_add-result : goal.overflow_add-result
 overflow_add-result c =
     let ms = c.args.self.now in
-    let at = sym (ap (λ (is : List Instance). slice_get is c.in-Some.place) c.conflict_set.ensures)
+    let at = sym (ap (λ (is : List Instance). slice_get is c.in-Some.place) c.conflict_set.ensures.instances)
     ∙ c.in-Some.ensures.some in
     let are = c.as_slice.ensures.value ∙ c.self.invariant.1 ∙ ap marks_of c.self.view_is in
     let age = ap (λ (m : Mark). m.age)
@@ -31,7 +31,7 @@ overflow_add-result c =
 
 pub returns-then-before : goal.returns-then-before
 returns-then-before c =
-    let at = sym (ap (λ (is : List Instance). slice_get is c.in-Some.place) c.conflict_set.ensures)
+    let at = sym (ap (λ (is : List Instance). slice_get is c.in-Some.place) c.conflict_set.ensures.instances)
     ∙ c.in-Some.ensures.some in
     let are = c.as_slice.ensures.value ∙ c.self.invariant.1 ∙ ap marks_of c.self.view_is in
     next_refracted c.args.pick.now c.args.self.now c.args.instance.now c.in-Some.place none at c.as_slice.result.now
@@ -39,9 +39,12 @@ returns-then-before c =
 
 pub returns-else-before : goal.returns-else-before
 returns-else-before c =
-    let at = sym (ap (λ (is : List Instance). slice_get is c.in-Some.place) c.conflict_set.ensures)
+    let at = sym (ap (λ (is : List Instance). slice_get is c.in-Some.place) c.conflict_set.ensures.instances)
     ∙ c.in-Some.ensures.some in
     let are = c.as_slice.ensures.value ∙ c.self.invariant.1 ∙ ap marks_of c.self.view_is in
     next_fired c.args.pick.now c.args.self.now c.args.instance.now c.in-Some.place none at c.as_slice.result.now are
     c.has_fired.result
     c.if-before.false c.has_fired.ensures
+
+pub place_in-requires : goal.place_in-requires
+place_in-requires c = c.conflict_set.ensures.ordered
