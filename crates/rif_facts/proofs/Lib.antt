@@ -1,2 +1,10 @@
 pub mod CallerLemmas
 pub mod FactsLemmas
+pub mod FatesLemmas
+pub mod KeyedLemmas
+pub mod LoopsLemmas
+pub mod MarksLemmas
+pub mod NetChangeLemmas
+pub mod ReadyLemmas
+pub mod RunsLemmas
+pub mod TurnedLemmas
