@@ -36,10 +36,10 @@ module _ (k p : ℤ) (c : Candidate) where
   down Less is not_above below = absurd (cc not_above)
   down Equal is not_above below =
       ap is_lt (int_cmp_total.antisymm n k ∙ ap ordering_reverse (int_cmp_total.congr k p n is)
-          ∙ sym (int_cmp_total.antisymm n p)) ∙ below
+      ∙ sym (int_cmp_total.antisymm n p)) ∙ below
   down Greater is not_above below =
       ap is_lt (int_cmp_total.trans n p k (less_is (int_cmp n p) below)
-          (int_cmp_total.antisymm p k ∙ ap ordering_reverse is))
+      (int_cmp_total.antisymm p k ∙ ap ordering_reverse is))
 
   below_two : (above : Bool) → is_lt (int_cmp k p) ≡ above
       → is_below (if above then Some p else Some k) c ≡ (is_lt (int_cmp n k) || is_lt (int_cmp n p))

@@ -49,13 +49,18 @@ fn a_change_removes_and_adds_facts(rt: HostRuntime) -> Result<(), Fail> {
         assert_eq!(rt; str::from_utf8(done.as_slice())?, *wanted, "{change}");
         let after = facts_of(alloc, format!(in alloc; "{STATE}{line}\n")?.as_str())?;
         assert_eq!(rt; state.len(), after.len(), "{change}");
-        assert_eq!(rt; facts_text(alloc, &state)?.as_slice(), facts_text(alloc, &after)?.as_slice(), "{change}");
+        assert_eq!(rt;
+            facts_text(alloc, &state)?.as_slice(),
+            facts_text(alloc, &after)?.as_slice(),
+            "{change}"
+        );
     }
     Ok(())
 }
 
 /// Facts of each kind that share their names, and what each key names of them.
-static SHARED: &str = "a assert _a(1)\na assert _a(_b 2)\na assert _b(1)\na assert _a[_a->1]\na assert _a[_b->2]\n\
+static SHARED: &str =
+    "a assert _a(1)\na assert _a(_b 2)\na assert _b(1)\na assert _a[_a->1]\na assert _a[_b->2]\n\
     a assert _a[_b->1]\na assert _b[_a->3]\na assert _a # _b\na assert _b # _a\na assert _c # _b\n";
 
 #[test]
@@ -71,15 +76,17 @@ fn keys_name_their_facts(rt: HostRuntime) -> Result<(), Fail> {
         (Key::ObjectSlot(a()?, b()?), "_a[_b->1] _a[_b->2] "),
         (Key::Object(a()?), "_a[_a->1] _a[_b->1] _a[_b->2] _a # _b "),
         (Key::Class(b()?), "_a # _b _c # _b "),
-        (
-            Key::Frames,
-            "_a[_a->1] _a[_b->1] _a[_b->2] _b[_a->3] ",
-        ),
+        (Key::Frames, "_a[_a->1] _a[_b->1] _a[_b->2] _b[_a->3] "),
         (Key::Members, "_a # _b _b # _a _c # _b "),
     ];
     for (key, wanted) in &cases {
         let mut shown = Vec::new(alloc);
-        show_facts(alloc, &mut shown, "", state.candidates(alloc, key)?.as_slice())?;
+        show_facts(
+            alloc,
+            &mut shown,
+            "",
+            state.candidates(alloc, key)?.as_slice(),
+        )?;
         assert_eq!(rt; str::from_utf8(shown.as_slice())?, *wanted, "{key:?}");
     }
     Ok(())
@@ -103,7 +110,10 @@ fn room_is_used_by_the_change_that_it_was_made_for(rt: HostRuntime) -> Result<()
         alloc,
         format!(in alloc; "{STATE}a retract _x\na assert _w # _C\n")?.as_str(),
     )?;
-    assert_eq!(rt; facts_text(alloc, &state)?.as_slice(), facts_text(alloc, &after)?.as_slice());
+    assert_eq!(rt;
+        facts_text(alloc, &state)?.as_slice(),
+        facts_text(alloc, &after)?.as_slice()
+    );
     Ok(())
 }
 
