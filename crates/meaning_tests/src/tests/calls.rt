@@ -5,7 +5,7 @@ use prd_relation::{Candidate, Plain, choose_plain};
 use rif_facts::{Facts, Key};
 use rif_match::{list_instances, matches};
 use rif_refusals::Fault;
-use rif_values::{Binding, Const, Text};
+use rif_values::{Binding, Const, OutOfMemory, Text};
 use safe_rules::SafeDoc;
 use std::alloc::Global;
 use std::test::Fail;
@@ -58,38 +58,51 @@ fn a_change_removes_and_adds_facts(rt: HostRuntime) -> Result<(), Fail> {
     Ok(())
 }
 
-/// Facts of each kind that share their names, and what each key names of them.
+/// Facts of each kind that share their names.
 static SHARED: &str =
     "a assert _a(1)\na assert _a(_b 2)\na assert _b(1)\na assert _a[_a->1]\na assert _a[_b->2]\n\
     a assert _a[_b->1]\na assert _b[_a->3]\na assert _a # _b\na assert _b # _a\na assert _c # _b\n";
+
+/// A key, and what it names of them.
+static KEYS: &[(&str, &str)] = &[
+    ("the atoms of _a", "_a(1) _a(_b 2) "),
+    ("the slot _a", "_a[_a->1] _b[_a->3] "),
+    ("the object _a and its slot _a", "_a[_a->1] "),
+    ("the object _a", "_a[_a->1] _a[_b->1] _a[_b->2] _a # _b "),
+    ("the class _a", "_b # _a "),
+    ("all frames", "_a[_a->1] _a[_b->1] _a[_b->2] _b[_a->3] "),
+    ("all memberships", "_a # _b _b # _a _c # _b "),
+];
 
 #[test]
 fn keys_name_their_facts(rt: HostRuntime) -> Result<(), Fail> {
     let alloc = rt.alloc();
     let state = facts_of(alloc, SHARED)?;
-    let a = || Text::from_str(alloc, "a").map(|text| Const::Local(text));
-    let b = || Text::from_str(alloc, "b").map(|text| Const::Local(text));
-    let cases = [
-        (Key::Predicate(a()?), "_a(1) _a(_b 2) "),
-        (Key::Slot(a()?), "_a[_a->1] _b[_a->3] "),
-        (Key::Slot(b()?), "_a[_b->1] _a[_b->2] "),
-        (Key::ObjectSlot(a()?, b()?), "_a[_b->1] _a[_b->2] "),
-        (Key::Object(a()?), "_a[_a->1] _a[_b->1] _a[_b->2] _a # _b "),
-        (Key::Class(b()?), "_a # _b _c # _b "),
-        (Key::Frames, "_a[_a->1] _a[_b->1] _a[_b->2] _b[_a->3] "),
-        (Key::Members, "_a # _b _b # _a _c # _b "),
-    ];
-    for (key, wanted) in &cases {
-        let mut shown = Vec::new(alloc);
-        show_facts(
-            alloc,
-            &mut shown,
-            "",
-            state.candidates(alloc, key)?.as_slice(),
-        )?;
-        assert_eq!(rt; str::from_utf8(shown.as_slice())?, *wanted, "{key:?}");
+    for (key, wanted) in KEYS {
+        let shown = named_by(alloc, &state, key)?;
+        assert_eq!(rt; str::from_utf8(shown.as_slice())?, *wanted, "{key}");
     }
     Ok(())
+}
+
+fn named_by(alloc: Global, state: &Facts, key: &str) -> Result<Vec<u8>, OutOfMemory> {
+    let name = Const::Local(Text::from_str(alloc, "a")?);
+    let facts = state.candidates(alloc, &key_of(key, name)?)?;
+    let mut shown = Vec::new(alloc);
+    show_facts(alloc, &mut shown, "", facts.as_slice())?;
+    Ok(shown)
+}
+
+fn key_of(key: &str, name: Const) -> Result<Key, OutOfMemory> {
+    match key {
+        "the atoms of _a" => Ok(Key::Predicate(name)),
+        "the slot _a" => Ok(Key::Slot(name)),
+        "the object _a and its slot _a" => Ok(Key::ObjectSlot(name.copy()?, name)),
+        "the object _a" => Ok(Key::Object(name)),
+        "the class _a" => Ok(Key::Class(name)),
+        "all frames" => Ok(Key::Frames),
+        _ => Ok(Key::Members),
+    }
 }
 
 #[test]
