@@ -193,7 +193,8 @@ module _ (own : List (Fact × Bool)) (taken : List Retraction) where
   decided_now next f stands undecided put q =
       ap (λ m. option_or m (decided (is_taken taken q) false)) (put q)
       ∙ own_step (same_fact f q) (mark_at own q) (is_taken taken q) stands (λ same.
-      none_of (kept q) (ap (λ (g : Fact). is_some (kept g)) (sym (equal_is total_facts exact_facts f q same)) ∙ undecided))
+      none_of (kept q) (ap (λ (g : Fact). is_some (kept g)) (sym (equal_is total_facts exact_facts f q same)) ∙
+      undecided))
 
   -- and one that was
   pub decided_before : (f : Fact) (stands : Bool) → is_some (kept f) ≡ true → (q : Fact)
@@ -203,7 +204,8 @@ module _ (own : List (Fact × Bool)) (taken : List Retraction) where
       ap (λ (g : Fact). is_some (kept g)) (sym (equal_is total_facts exact_facts f q same)) ∙ known)
 
   -- a retraction more
-  pub retracted_now : (next : List Retraction) (r : Retraction) → next ≡ insert_key retraction_order.ghosts.cmp taken r
+  pub retracted_now : (next : List Retraction) (r : Retraction) → next ≡ insert_key retraction_order.ghosts.cmp taken
+      r
       → (q : Fact) → option_or (mark_at own q) (decided (is_taken next q) false)
       ≡ option_or (kept q) (decided (is_taken_by r q) false)
   retracted_now next r is q =

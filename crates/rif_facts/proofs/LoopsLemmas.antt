@@ -1,6 +1,7 @@
 -- What loops over a state's facts keep.
 use Rattle.std.proofs.Common.{◌≡◌, Bool, true, false, cond, ◌||◌, ◌&&◌, List, [], ◌∷◌, ◌++◌, ℕ, ◌+◌, ◌<◌, suc, length}
-use Rattle.std.proofs.Common.{take, drop, get_or, refl, sym, ap, ap₂, ◌∙◌, subst, Less, None, Some, is_some, true≢false, arith}
+use Rattle.std.proofs.Common.{take, drop, get_or, refl, sym, ap, ap₂, ◌∙◌, subst, Less, None, Some, is_some}
+use Rattle.std.proofs.Common.{true≢false, arith}
 use Rattle.std.proofs.Common.{Result, Ok, Err, OnErr}
 use Rattle.std.specs.declared.option.Option.{Option}
 use Rattle.std.specs.Ordering.{is_eq, ordering_reverse}
@@ -44,7 +45,8 @@ written_more facts i f q w old now next within is step was =
     ∙ ap (λ b. cond b w old) (sym (has_more facts i f q within is))
 
 count_step : (c d : Bool) (old : Option Bool)
-    → cond (c && is_some (cond (d && is_some old) (Some true) old)) (Some true) (cond (d && is_some old) (Some true) old)
+    → cond (c && is_some (cond (d && is_some old) (Some true) old)) (Some true)
+    (cond (d && is_some old) (Some true) old)
     ≡ cond ((d || c) && is_some old) (Some true) old
 count_step true true None = refl
 count_step true true (Some mark) = refl

@@ -72,7 +72,8 @@ all_kept : (P : Fact → Type 0) (test : Fact × Bool → Bool) (es : List (Fact
     → AllByRecursion P (kept_by test es)
 all_kept P test [] all = tt
 all_kept P test (e ∷ es) all =
-    by_test (λ (fs : List (Fact × Bool)). AllByRecursion P (keys_of fs)) (test e) _ _ (λ _. (all.0, all_kept P test es all.1))
+    by_test (λ (fs : List (Fact × Bool)). AllByRecursion P (keys_of fs)) (test e) _ _
+    (λ _. (all.0, all_kept P test es all.1))
     (λ _. all_kept P test es all.1)
 
 -- and are a state of facts

@@ -101,7 +101,8 @@ module _ (es : List (Fact × Bool)) (d : Delta) (ready : IsReady es (Some d)) (f
 
   -- the change that is done
   module _ (gs : List (Fact × Bool))
-      (put : (q : Fact) → mark_at gs q ≡ cond (has_fact d.added q && is_some (mark_at es q)) (Some true) (mark_at es q))
+      (put : (q : Fact) → mark_at gs q ≡ cond (has_fact d.added q && is_some (mark_at es q)) (Some true)
+      (mark_at es q))
       (taken : (q : Fact) → mark_at fs q ≡ cond (has_fact d.removed q) None (mark_at gs q)) where
     done_mark : (q : Fact) → mark_at fs q ≡ cond (has_fact d.removed q) None
         (cond (has_fact d.added q && is_some (mark_at es q)) (Some true) (mark_at es q))
@@ -196,12 +197,14 @@ length_without es ready =
 
 -- ---- facts put in and counted where there were none
 
-fresh_counts : (b : Bool) → counts (cond (b && is_some (cond b (Some false) None)) (Some true) (cond b (Some false) None))
+fresh_counts : (b : Bool) → counts (cond (b && is_some (cond b (Some false) None)) (Some true)
+    (cond b (Some false) None))
     ≡ b
 fresh_counts true = refl
 fresh_counts false = refl
 
-fresh_waits : (b : Bool) → waits (cond (b && is_some (cond b (Some false) None)) (Some true) (cond b (Some false) None))
+fresh_waits : (b : Bool) → waits (cond (b && is_some (cond b (Some false) None)) (Some true)
+    (cond b (Some false) None))
     ≡ false
 fresh_waits true = refl
 fresh_waits false = refl
@@ -248,7 +251,8 @@ done es gs fs room d added removed list ready room_is added_is removed_is list_i
     (λ q. taken q ∙ ap (λ (ks : List Fact). cond (has_fact ks q) None (mark_at gs q)) removed_is)
     ∙ ap (λ (ks : List Fact). patched fact_cmp ks d.added d.removed) list_is
 
-module _ (es : List (Fact × Bool)) (room : Option Delta) (d : Delta) (added list : List Fact) (ready : IsReady es room)
+module _ (es : List (Fact × Bool)) (room : Option Delta) (d : Delta) (added list : List Fact)
+    (ready : IsReady es room)
     (none : room ≡ None) (added_is : added ≡ d.added) (list_is : counted es ≡ list)
     (change : IsChangeOf fact_cmp list d.added d.removed) where
   without_room : IsReady es None
@@ -281,7 +285,8 @@ module _ (es : List (Fact × Bool)) (room : Option Delta) (d : Delta) (added lis
         (λ q. taken q ∙ ap (λ (ks : List Fact). cond (has_fact ks q) None (mark_at gs q)) again_is)
         ∙ list_is
 
-pub copied : (facts again list : List Fact) (es gs fs : List (Fact × Bool)) → facts ≡ list → again ≡ list → IsFacts list
+pub copied : (facts again list : List Fact) (es gs fs : List (Fact × Bool)) → facts ≡ list → again ≡ list → IsFacts
+    list
     → es ≡ [] → IsMarked fs
     → ((q : Fact) → mark_at gs q ≡ cond (has_fact facts q) (Some false) (mark_at es q))
     → ((q : Fact) → mark_at fs q ≡ cond (has_fact again q && is_some (mark_at gs q)) (Some true) (mark_at gs q))

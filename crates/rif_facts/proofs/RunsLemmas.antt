@@ -162,7 +162,8 @@ first_value o s = record { below = below; joined = joined }
     below (Frame p t v) range of =
         let parts = eq_parts _ _ of in
         subst (λ r. is_le r ≡ true)
-        (sym (same_then (const_cmp o p) _ parts.0 ∙ same_then (const_cmp s t) (const_cmp (Int LEAST_INTEGER) v) parts.1))
+        (sym (same_then (const_cmp o p) _ parts.0 ∙ same_then (const_cmp s t) (const_cmp (Int LEAST_INTEGER) v)
+        parts.1))
         range.2
     below (Member p c) range of = refl
 

@@ -1,5 +1,6 @@
 -- Facts with their first two places exchanged.
-use Rattle.std.proofs.Common.{◌≡◌, Bool, true, false, cond, ◌||◌, ◌&&◌, List, [], ◌∷◌, ◌++◌, filter, map, ℕ, ◌≤◌, length, take, take_all}
+use Rattle.std.proofs.Common.{◌≡◌, Bool, true, false, cond, ◌||◌, ◌&&◌, List, [], ◌∷◌, ◌++◌, filter, map, ℕ, ◌≤◌}
+use Rattle.std.proofs.Common.{length, take, take_all}
 use Rattle.std.proofs.Common.{Ordering, Less, Equal, Greater, refl, sym, ap, ap₂, ◌∙◌, subst, true≢false, None, Some}
 use Rattle.std.specs.declared.option.Option.{Option}
 use Rattle.std.specs.Ordering.{ordering_then, is_eq}
@@ -126,7 +127,8 @@ all_in test (f ∷ facts) =
 
 -- which facts a run of the turned entries has
 turned_at : (run : Run) → IsTurnedRun run → (es fs : List (Fact × Bool)) → AreTurned es fs → (q : Fact)
-    → (is_in_run run (turned q) && counts (mark_at fs (turned q))) ≡ (is_in_run run (turned q) && counts (mark_at es q))
+    → (is_in_run run (turned q) && counts (mark_at fs (turned q))) ≡
+    (is_in_run run (turned q) && counts (mark_at es q))
 turned_at run is es fs are (Frame o s v) =
     ap (λ m. is_in_run run (Frame s o v) && counts m) (are (Frame s o v))
 turned_at run is es fs are (Member o c) = ap (λ m. is_in_run run (Member c o) && counts m) (are (Member c o))
@@ -226,7 +228,8 @@ object_found o a b facts frames members set same again frames_are members_are =
     (members_are ∙ ap (λ (c : Const). filter (is_in_run (MembershipsOf c)) facts) again)
     ∙ object_runs o facts set
 
-pub turned_found : (run : Run) → IsTurnedRun run → (es ds fs : List (Fact × Bool)) (found items all : List Fact) (n : ℕ)
+pub turned_found : (run : Run) → IsTurnedRun run → (es ds fs : List (Fact × Bool)) (found items all : List Fact)
+    (n : ℕ)
     → found ≡ map turned (take n items) → length items ≤ n → items ≡ all
     → all ≡ filter (is_in_run run) (counted fs) → AreTurned es fs → IsMarked es → IsMarked fs → es ≡ ds
     → found ≡ filter (λ f. is_in_run run (turned f)) (counted ds)

@@ -1,5 +1,5 @@
--- How facts are kept: each with a mark, which says whether it counts, and the frames and memberships a second time with
--- their first two places exchanged. No public clause cites this module.
+-- How facts are kept: each with a mark, which says whether it counts, and the frames and memberships a second time
+-- with their first two places exchanged. No public clause cites this module.
 --     mark_at es q         the mark of the fact q
 --     kept_by P es         the facts of the entries that pass a test
 --     counted es           the facts that count

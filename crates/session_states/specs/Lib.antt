@@ -1,3 +1,4 @@
 pub mod Batches
 pub mod Clients
 pub mod Machine
+pub mod OpenBatches

@@ -101,7 +101,7 @@ fn has_ending(entries: &[Entry]) -> bool
     entries.iter().any(|entry| is_ending(&entry.item))
 }
 
-fn is_ending(item: &Item) -> bool
+pub(crate) fn is_ending(item: &Item) -> bool
     ensures { result ≡ ends_batch item.now }
 {
     match item {

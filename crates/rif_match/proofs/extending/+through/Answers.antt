@@ -27,7 +27,8 @@ rows_through-returns-in-Holds t c =
 
 pub rows_outside-loop-row-preserved : goal.rows_outside-loop-row-preserved
 rows_outside-loop-row-preserved t c =
-    kept_step (λ row. length (through (base_of c.args.facts.now.list) c.args.inner.now (row ∷ [])) == 0) c.args.rows.now
+    kept_step (λ row. length (through (base_of c.args.facts.now.list) c.args.inner.now (row ∷ [])) == 0)
+    c.args.rows.now
     c.loop-row.row-index c.row-item.result
     c.in_ok-kept.kept c.loop-row.all.items c.push_kept.new.all.items c.loop-row-test.true c.row-item.is
     c.in_ok-kept.ensures

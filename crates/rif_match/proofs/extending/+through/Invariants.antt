@@ -13,4 +13,5 @@ invariant-rows_through_any-loop-branch l =
 
 abbrev pub invariant-rows_outside-loop-row : goal.invariant-rows_outside-loop-row
 invariant-rows_outside-loop-row l =
-    l.all.items ≡ filter (λ row. length (through (base_of l.facts.list) l.inner (row ∷ [])) == 0) (take l.row-index l.rows)
+    l.all.items ≡ filter (λ row. length (through (base_of l.facts.list) l.inner (row ∷ [])) == 0)
+    (take l.row-index l.rows)

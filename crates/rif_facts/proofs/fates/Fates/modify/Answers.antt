@@ -8,7 +8,8 @@ pub returns : goal.returns
 returns c =
     λ q.
     let a = c.in_ok-decide.ensures q in
-    fate_of_both (fate_kept c.args.self.now q) (fate_kept c.decide.new.self q) (fate_kept c.retract_slot.new.self q) _ _
+    fate_of_both (fate_kept c.args.self.now q) (fate_kept c.decide.new.self q) (fate_kept c.retract_slot.new.self q)
+    _ _
     (c.in_ok-decide.ensures q) (c.in_ok-retract_slot.ensures q)
     ∙ ap (option_or (fate_kept c.args.self.now q))
     (modified _ c.args.object.now c.args.slot.now c.args.value.now c.in_ok-copy.field-0 c.in_ok-copy-2.field-0

@@ -10,6 +10,7 @@ loop-left-preserved c =
     let some = c.loop-left-test.true in (
       omega arith,
       λ q.
-          fate_before c.args.changes.now c.loop-left.left c.index-changes-left.result q (fate_kept c.loop-left.fates q)
+          fate_before c.args.changes.now c.loop-left.left c.index-changes-left.result q
+          (fate_kept c.loop-left.fates q)
           (fate_kept c.note.new.self q) some within i (c.loop-left.invariant.1 q) (c.in_ok-note.ensures q),
     )

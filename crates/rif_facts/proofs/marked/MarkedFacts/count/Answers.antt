@@ -4,7 +4,8 @@ use Rattle.rif_values.specs.declared.fact.Fact.{Fact}
 use Rattle.rif_values.specs.Facts.{same_fact}
 use Rattle.rif_values.proofs.CallerLemmas.{fact_order_is}
 use Rattle.rif_facts.specs.Marks.{mark_at, IsMarked}
-use Rattle.rif_facts.proofs.KeyedLemmas.{looked_up, updated, marked_after_write, written_some, written_none, is_some_of}
+use Rattle.rif_facts.proofs.KeyedLemmas.{looked_up, updated, marked_after_write, written_some, written_none}
+use Rattle.rif_facts.proofs.KeyedLemmas.{is_some_of}
 use Rattle.rif_facts.proofs.marked.MarkedFacts.count.Goals as goal
 use Rattle.rif_facts.proofs.marked.MarkedFacts.count.Goals.{in-Some, in_default}
 
@@ -17,7 +18,8 @@ marked_then c =
           (marked_after_write _ fact_order_is c.self.inside.entries.entries (c.get_mut.follows.lender true).entries
           (c.get_mut.follows.holds true).1 c.self.invariant)
       | in_default w ↦
-          subst P (sym (ap (λ i. i.entries.entries) w.self-inside-is ∙ ap (λ m. m.entries) c.get_mut.follows.holds-at-none))
+          subst P (sym (ap (λ i. i.entries.entries) w.self-inside-is ∙ ap (λ m. m.entries)
+          c.get_mut.follows.holds-at-none))
           c.self.invariant
     ]
 
@@ -39,7 +41,8 @@ marks_then c q =
           ((c.get_mut.follows.holds true).3 (is_some_of _ _ (sym value))).0) q)
       | in_default w ↦
           let value = ap option_copied_mut (sym w.in_default.is) ∙ c.get_mut.ensures.value in
-          subst P (sym (ap (λ i. i.entries.entries) w.self-inside-is ∙ ap (λ m. m.entries) c.get_mut.follows.holds-at-none))
+          subst P (sym (ap (λ i. i.entries.entries) w.self-inside-is ∙ ap (λ m. m.entries)
+          c.get_mut.follows.holds-at-none))
           (written_none es f (sym at ∙ sym value) q)
     ]
 
