@@ -1,6 +1,6 @@
 -- What contracts see of a batch to which entries are added.
---     open.entries            its entries, in order
---     open.has_room           whether one more can be added without memory
+--     batch.entries           its entries, in order
+--     batch.has_room          whether one more can be added without memory
 --     takes_more entries      whether one more entry may stand behind these: there are fewer than 1,024, and the last
 --                             one ends no batch
 -- Source: the project's own (docs/PROFILE.md, "Batches").

@@ -27,12 +27,12 @@ impl Model for OpenBatch {
 
     ghost Value = { BatchWithRoom };
 
-    ghost view = { λ open. record {
-      entries = open.entries.items;
-      has_room = nat_lt (vec_len open.entries) (vec_capacity open.entries);
+    ghost view = { λ batch. record {
+      entries = batch.entries.items;
+      has_room = nat_lt (vec_len batch.entries) (vec_capacity batch.entries);
     } };
 
-    ghost invariant = { λ open. IsLawful open.entries.items };
+    ghost invariant = { λ batch. IsLawful batch.entries.items };
 }
 
 impl OpenBatch {
