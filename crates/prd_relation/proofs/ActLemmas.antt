@@ -1,5 +1,5 @@
 -- What the act of a turn says.
-use Rattle.std.proofs.Common.{◌≡◌, ◌≢◌, ◌∙◌, ◌-◌, ◌⊎◌, inl, inr, ℕ, zero, suc, List, [], ◌∷◌, Some, None}
+use Rattle.std.proofs.Common.{◌≡◌, ◌≢◌, ◌∙◌, ◌-◌, ◌⊎◌, inl, inr, ℕ, zero, suc, true, List, [], ◌∷◌, Some, None}
 use Rattle.std.proofs.Common.{refl, ap, sym, subst, length, slice_get, arith}
 use Rattle.std.specs.Option.{option_and_then}
 use Rattle.std.specs.declared.option.Option.{Option}
@@ -12,10 +12,13 @@ use Rattle.session_states.specs.declared.state.State.{State}
 use Rattle.session_states.specs.declared.state.State.TheVariants.{Idle, Firing, UntilHalt, Disposed}
 use Rattle.session_states.specs.declared.turn.Act.{Act}
 use Rattle.session_states.specs.declared.turn.Act.TheVariants.{Fired, Halted, Disposed as DisposedAct}
+use Rattle.session_states.specs.declared.turn.Act.TheVariants.{Idle as IdleAct, Resting, StoppedLimit, StoppedQuiet}
 use Rattle.session_states.specs.declared.turn.Effect.TheVariants.{None as NoEffect}
 use Rattle.prd_relation.specs.Choice.{chosen_instance}
 use Rattle.prd_relation.specs.History.{moments_of}
-use Rattle.prd_relation.specs.Laws.{FiresTheChosen, IsFiring, IsReason, OthersKeepHistories, StopsWhereItMust}
+use Rattle.prd_relation.specs.Laws.{FiresTheChosen, FiringsStayLive, IsFiring, IsReason, OthersKeepHistories}
+use Rattle.prd_relation.specs.Laws.{StopsWhereItMust}
+use Rattle.prd_relation.specs.Runs.{fires, is_fired}
 use Rattle.prd_relation.specs.RuleSystem.{RuleSystem}
 use Rattle.prd_relation.specs.Turns.{Outcome, Session, ending_act, ending_item, outcome_after, outcome_in}
 use Rattle.prd_relation.specs.Turns.{session_with, state_with, with_budget}
@@ -172,3 +175,25 @@ stops_for_reason system session batch act is =
     let same : after.act ≡ act = cc is in
     subst (λ (a : Act). IsReason system batch (session_with session batch) after.session.state a) same
     (entry_explains system session batch (slice_get batch (length batch - 1)) refl)
+
+-- ---- what a firing leaves
+
+is_firing : (act : Act) → is_fired act ≡ true → act ≡ Fired
+is_firing IdleAct is = absurd (cc is)
+is_firing Halted is = absurd (cc is)
+is_firing DisposedAct is = absurd (cc is)
+is_firing Fired is = refl
+is_firing StoppedQuiet is = absurd (cc is)
+is_firing StoppedLimit is = absurd (cc is)
+is_firing Resting is = absurd (cc is)
+
+left_live : (system : RuleSystem) (batch : List Entry) (s : Session) (after : State)
+    → IsReason system batch s after Fired → after ≢ Disposed
+left_live system batch s after (none, left, inl firing) = λ is. cc (sym firing.1 ∙ is)
+left_live system batch s after (none, left, inr until) = λ is. cc (sym until.1 ∙ is)
+
+pub firings_stay_live : FiringsStayLive
+firings_stay_live system session batch fired =
+    let act = is_firing (outcome_after system (ending_act batch) (session_with session batch)).act fired in
+    left_live system batch (session_with session batch) _
+    (stops_for_reason system session batch Fired (ap (λ (a : Act). Some a) act))

@@ -1,10 +1,10 @@
 -- Which turns dispose of a session.
-use Rattle.std.proofs.Common.{◌≡◌, ◌≢◌, ◌∙◌, ◌-◌, zero, suc, true, false, List, [], ◌∷◌, Some, None}
+use Rattle.std.proofs.Common.{◌≡◌, ◌≢◌, ◌∙◌, ◌-◌, zero, suc, Bool, true, false, List, [], ◌∷◌, Some, None}
 use Rattle.std.proofs.Common.{refl, ap, sym, length, slice_get, arith}
 use Rattle.std.specs.Option.{option_and_then, option_map_or}
 use Rattle.std.specs.declared.option.Option.{Option}
 use Rattle.rif_values.specs.declared.instance.Instance.{Instance}
-use Rattle.session_states.specs.Batches.{EndsLast, IsLawful, ends_batch, is_dispose}
+use Rattle.session_states.specs.Batches.{EndsLast, IsLawful, ends_batch, is_dispose, is_disposing}
 use Rattle.session_states.specs.Machine.{state_after}
 use Rattle.session_states.specs.declared.item.Item.{Item}
 use Rattle.session_states.specs.declared.item.Item.TheVariants.{Change, Fire, Until, Halt, Dispose}
@@ -13,7 +13,7 @@ use Rattle.session_states.specs.declared.state.State.{State}
 use Rattle.session_states.specs.declared.state.State.TheVariants.{Idle, Firing, UntilHalt, Disposed}
 use Rattle.session_states.specs.declared.turn.Act.{Act}
 use Rattle.session_states.specs.declared.turn.Act.TheVariants.{Disposed as DisposedAct}
-use Rattle.prd_relation.specs.Laws.{DisposesByDispose}
+use Rattle.prd_relation.specs.Laws.{DisposesByDispose, DisposesOnlyByDispose}
 use Rattle.prd_relation.specs.RuleSystem.{RuleSystem}
 use Rattle.prd_relation.specs.Turns.{Session, ending_act, ending_item, outcome_after, outcome_in, session_with}
 use Rattle.prd_relation.specs.Turns.{state_with}
@@ -108,3 +108,54 @@ disposes_by_dispose system session batch lawful live =
       λ is. ap (λ (ending : Option Act). Some (outcome_after system ending (session_with session batch)).act)
           (entry_ends last is),
     )
+
+-- ---- the state after a turn
+
+-- an item that is no Dispose disposes of nothing
+other_item_keeps : (state : State) (item : Item) → is_dispose item ≡ false → state_after state item ≡ Disposed
+    → state ≡ Disposed
+other_item_keeps Idle Halt other is = absurd (cc is)
+other_item_keeps (Firing left) Halt other is = absurd (cc is)
+other_item_keeps (UntilHalt left) Halt other is = absurd (cc is)
+other_item_keeps state (Change c) other is = item_keeps state (Change c) refl is
+other_item_keeps state (Fire more) other is = item_keeps state (Fire more) refl is
+other_item_keeps state (Until more) other is = item_keeps state (Until more) refl is
+other_item_keeps Disposed Halt other is = refl
+other_item_keeps state Dispose other is = absurd (cc other)
+
+-- nor does a lawful batch that doesn't end in one
+other_batch_keeps : (batch : List Entry) (state : State) → EndsLast batch → is_disposing batch ≡ false
+    → state_with state batch ≡ Disposed → state ≡ Disposed
+other_batch_keeps [] state ends other is = is
+other_batch_keeps (e ∷ []) state ends other is = other_item_keeps state e.item other is
+other_batch_keeps (e ∷ next ∷ batch) state ends other is =
+    let place : length (e ∷ next ∷ batch) - 1 ≡ suc (length (next ∷ batch) - 1) = omega arith in
+    let later : is_disposing (next ∷ batch) ≡ false =
+    sym (ap (λ n. option_map_or (λ (entry : Entry). is_dispose entry.item) (slice_get (e ∷ next ∷ batch) n) false)
+    place) ∙ other in
+    item_keeps state e.item ends.0 (other_batch_keeps (next ∷ batch) (state_after state e.item) ends.1 later is)
+
+act_leaves : (system : RuleSystem) (s : Session) (state : State) (choice : Option Instance) → s.state ≡ state
+    → (outcome_in system s state choice).session.state ≡ Disposed → s.state ≡ Disposed
+act_leaves system s Idle choice at is = absurd (cc is)
+act_leaves system s (Firing zero) (Some i) at is = absurd (cc is)
+act_leaves system s (Firing (suc left)) (Some i) at is = absurd (cc is)
+act_leaves system s (Firing left) None at is = absurd (cc is)
+act_leaves system s (UntilHalt zero) (Some i) at is = absurd (cc is)
+act_leaves system s (UntilHalt (suc left)) (Some i) at is = absurd (cc is)
+act_leaves system s (UntilHalt left) None at is = absurd (cc is)
+act_leaves system s Disposed choice at is = at
+
+ending_leaves : (system : RuleSystem) (s : Session) (ending : Option Act)
+    → (outcome_after system ending s).session.state ≡ Disposed → s.state ≡ Disposed
+ending_leaves system s (Some act) is = is
+ending_leaves system s None is = act_leaves system s s.state _ refl is
+
+pub disposed_by_dispose : DisposesOnlyByDispose
+disposed_by_dispose system session batch lawful live is = by_end (is_disposing batch) refl
+  where
+    by_end : (b : Bool) → is_disposing batch ≡ b → is_disposing batch ≡ true
+    by_end true at = at
+    by_end false at =
+        absurd (live (other_batch_keeps batch session.state lawful.ends_last at
+        (ending_leaves system (session_with session batch) (ending_act batch) is)))

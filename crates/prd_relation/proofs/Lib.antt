@@ -7,9 +7,7 @@ pub mod HistoryLemmas
 pub mod PickLemmas
 pub mod PlainLemmas
 pub mod ReplayLawLemmas
-pub mod ReplayLemmas
 pub mod RunHistoryLemmas
 pub mod RunLawLemmas
 pub mod TurnFactsLemmas
-pub mod TurnLemmas
 pub mod DisposeLemmas

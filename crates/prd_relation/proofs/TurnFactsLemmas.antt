@@ -17,11 +17,11 @@ use Rattle.session_states.specs.declared.state.State.{State}
 use Rattle.session_states.specs.declared.state.State.TheVariants.{Idle, Firing, UntilHalt, Disposed}
 use Rattle.session_states.specs.declared.turn.Act.{Act}
 use Rattle.session_states.specs.declared.turn.Turn.{Turn}
-use Rattle.prd_relation.specs.FactsOfTurns.{facts_after_effect, facts_after_turn, fact_count_of}
+use Rattle.prd_relation.specs.FactsOfTurns.{facts_after_effect, facts_after_turn}
 use Rattle.prd_relation.specs.History.{Snapshot, IsHistory, newest_facts}
 use Rattle.prd_relation.specs.Laws.{TellTheirFacts}
 use Rattle.prd_relation.specs.RuleSystem.{RuleSystem}
-use Rattle.prd_relation.specs.Runs.{facts_at_end, run_of, session_at_end, turns_from}
+use Rattle.prd_relation.specs.Runs.{session_at_end, turns_from}
 use Rattle.prd_relation.specs.Turns.{Outcome, Session, block_at, changes_in, effect_of_block, ending_act}
 use Rattle.prd_relation.specs.Turns.{facts_after_block, first_session, history_with, outcome_after, outcome_in}
 use Rattle.prd_relation.specs.Turns.{outcome_of, session_after, session_with, turn_of, with_budget}
@@ -88,8 +88,3 @@ turns_tell system s (batch ∷ batches) is =
 
 pub tell_their_facts : TellTheirFacts
 tell_their_facts system batches = turns_tell system first_session batches (first_is_history system)
-
--- the number of facts at the end of a run is that of its turns
-pub counted : (system : RuleSystem) (batches : List (List Entry)) (turns : List Turn) → turns ≡ run_of system batches
-    → facts_at_end system batches ≡ fact_count_of turns
-counted system batches turns are = ap length (sym (tell_their_facts system batches)) ∙ ap fact_count_of (sym are)

@@ -23,7 +23,7 @@ use Rattle.prd_relation.specs.FactsOfTurns.{facts_of_turns}
 use Rattle.prd_relation.specs.History.{Snapshot, moments_of, newest_conflict_set, newest_facts, age_of, is_refracted}
 use Rattle.prd_relation.specs.History.{IsAge, IsHistory, IsRefracted}
 use Rattle.prd_relation.specs.RuleSystem.{RuleSystem}
-use Rattle.prd_relation.specs.Runs.{AreLawful, AreLawfulFrom, IsReplay, run_of, session_at_end}
+use Rattle.prd_relation.specs.Runs.{AreLawful, AreLawfulFrom, IsReplay, fires, run_of, session_at_end}
 use Rattle.prd_relation.specs.Turns.{Session, block_at, effect_of_block, ending_act, facts_after_block, first_session}
 use Rattle.prd_relation.specs.Turns.{made_after_block, session_after, session_with, turn_of}
 
@@ -190,6 +190,17 @@ abbrev pub DisposesByDispose : Type 0
 DisposesByDispose = (system : RuleSystem) (session : Session) (batch : List Entry)
     → IsLawful batch → session.state ≢ Disposed
     → ((turn_of system session batch).act ≡ Some DisposedAct) ↔ (is_disposing batch ≡ true)
+
+-- a lawful batch leaves a session disposed that wasn't only where it ends in a Dispose
+abbrev pub DisposesOnlyByDispose : Type 0
+DisposesOnlyByDispose = (system : RuleSystem) (session : Session) (batch : List Entry)
+    → IsLawful batch → session.state ≢ Disposed → (session_after system session batch).state ≡ Disposed
+    → is_disposing batch ≡ true
+
+-- a turn that fires leaves a session that isn't disposed
+abbrev pub FiringsStayLive : Type 0
+FiringsStayLive = (system : RuleSystem) (session : Session) (batch : List Entry)
+    → fires system session batch ≡ true → (session_after system session batch).state ≢ Disposed
 
 -- a turn has its act for the act's reason: it stops or rests only where nothing is left to fire, or where the budget
 -- is spent

@@ -1,11 +1,8 @@
 pub mod Choice
-pub mod Endings
 pub mod FactsOfTurns
 pub mod History
 pub mod Laws
 pub mod Layout
-pub mod Replay
 pub mod RuleSystem
 pub mod Runs
-pub mod Session
 pub mod Turns

@@ -8,14 +8,13 @@
 -- from the cut of a script (docs/PROFILE.md, "Replay").
 -- Source: RIF-PRD, "Operational semantics of a production rule system"; that batches of clients stand between
 -- firings is the project's own (docs/PROFILE.md, "Turns").
-use Rattle.std.specs.Prelude.{◌≡◌, ℕ, Bool, true, false, List, [], ◌∷◌, length}
+use Rattle.std.specs.Prelude.{◌≡◌, Bool, true, false, List, [], ◌∷◌}
 use Rattle.session_states.specs.declared.item.Entry.{Entry}
 use Rattle.session_states.specs.declared.turn.Act.{Act}
 use Rattle.session_states.specs.declared.turn.Act.TheVariants.{Idle as IdleAct, Halted, Disposed as DisposedAct}
 use Rattle.session_states.specs.declared.turn.Act.TheVariants.{Fired, StoppedQuiet, StoppedLimit, Resting}
 use Rattle.session_states.specs.declared.turn.Turn.{Turn}
 use Rattle.session_states.specs.Batches.{IsLawful, is_disposing}
-use Rattle.prd_relation.specs.History.{newest_facts}
 use Rattle.prd_relation.specs.RuleSystem.{RuleSystem}
 use Rattle.prd_relation.specs.Turns.{Session, first_session, outcome_of, turn_of, session_after}
 
@@ -30,10 +29,6 @@ session_at_end system session (batch ∷ batches) = session_at_end system (sessi
 
 abbrev pub run_of : RuleSystem → List (List Entry) → List Turn
 run_of system batches = turns_from system first_session batches
-
--- how many facts there are at the end of a run
-abbrev pub facts_at_end : RuleSystem → List (List Entry) → ℕ
-facts_at_end system batches = length (newest_facts (session_at_end system first_session batches).history)
 
 abbrev pub is_fired : Act → Bool
 is_fired IdleAct = false

@@ -8,7 +8,7 @@ ghost use Rattle.prd_relation.specs.Laws.{AreFiringsStates, ReachHistories, Tell
 ghost use Rattle.prd_relation.specs.Laws.{DisposesEnd, IsReplayOne, AreReplaysLawful};
 ghost use Rattle.prd_relation.specs.Laws.{AllowsTheBest, PickTheChosen};
 ghost use Rattle.prd_relation.specs.Laws.{FiresTheChosen, OthersKeepHistories, StopsWhereItMust};
-ghost use Rattle.prd_relation.specs.Laws.{DisposesByDispose};
+ghost use Rattle.prd_relation.specs.Laws.{DisposesByDispose, DisposesOnlyByDispose, FiringsStayLive};
 
 /// Law: the age is how many of the newest states in a row have the instance in their conflict sets.
 pub fn ages_count_states_in_a_row()
@@ -111,4 +111,14 @@ pub fn turns_stop_where_they_must()
 /// Dispose.
 pub fn a_dispose_disposes()
     ensures { DisposesByDispose }
+{}
+
+/// Law: a lawful batch leaves a session disposed, that wasn't, only where it ends in a Dispose.
+pub fn a_session_is_disposed_by_a_dispose()
+    ensures { DisposesOnlyByDispose }
+{}
+
+/// Law: a turn that fires leaves a session that isn't disposed.
+pub fn a_firing_disposes_of_nothing()
+    ensures { FiringsStayLive }
 {}

@@ -1,4 +1,4 @@
-//! What a run means, and the plain program that runs it: it lists each conflict set from scratch, and
+//! What a run means, and the plain way to find what is picked: it lists each conflict set from scratch, and
 //! stays plain, so that faster programs can be held against it.
 //!
 //! Definitions and laws speak of a rule system and not of a document: `system_of` makes the rule system of a
@@ -8,12 +8,11 @@
 //! |---|---|---|
 //! | `moment.rt`, `mark.rt`, `plain.rt` | `Plain`, the history as its conflict sets | `specs/History.antt` |
 //! | `candidate.rt`, `choosing.rt` | `choose_plain`: a pick is made here | `specs/Choice.antt` |
-//! | `steps.rt`, `session.rt` | a turn, step by step | `specs/Turns.antt` |
-//! | `replay.rt` | `replay_plain`, the run of some batches | `specs/Runs.antt` |
+//! | | turns, and runs of some batches | `specs/Turns.antt`, `specs/Runs.antt` |
 //! | | rule systems, and the facts that turns leave | `specs/RuleSystem.antt`, `specs/FactsOfTurns.antt` |
 //! | `laws.rt` | laws of the definitions | `specs/Laws.antt` |
 //!
-//! Begin at `replay_plain`.
+//! Begin at `specs/Runs.antt`, and at `choose_plain`.
 #![tactic(auto)]
 
 mod candidate;
@@ -22,13 +21,9 @@ pub mod laws;
 mod mark;
 mod moment;
 mod plain;
-mod replay;
-mod session;
-mod steps;
 
 pub use candidate::Candidate;
 pub use choosing::{choose_plain, priority};
 pub use mark::Mark;
 pub use moment::Moment;
 pub use plain::Plain;
-pub use replay::{PlainRun, replay_plain};

@@ -1,9 +1,8 @@
 //! The steps of a turn that need no session.
-ghost use Rattle.std.specs.Prelude.{◌≡◌, ◌≤◌, ◌^◌, ◌++◌, IfOk, OnOk};
+ghost use Rattle.std.specs.Prelude.{◌≡◌, ◌≤◌, ◌^◌, ◌++◌, IfOk, OnErr, OnOk};
 ghost use Rattle.prd_relation.specs.Turns.{state_with, changes_in, change_of, ending_act, ending_item};
 ghost use Rattle.prd_relation.specs.Turns.{facts_after_block, effect_of_block, made_after_block};
 ghost use Rattle.prd_relation.specs.RuleSystem.{system_of};
-ghost use Rattle.prd_relation.specs.Endings.{NeverFires};
 ghost use Rattle.rif_actions.specs.Uses.{HasMadeAtMost};
 ghost use Rattle.std.specs.Option.{option_to_list};
 
@@ -47,8 +46,7 @@ fn push_change(changes: &mut Vec<Change>, item: &Item) -> Result<(), OutOfMemory
 
 /// The act that the end of a batch fixes, where it does.
 pub fn ending(batch: &[Entry]) -> Option<Act>
-    ensures act { result ≡ ending_act batch.now }
-    ensures unfired { NeverFires result }
+    ensures { result ≡ ending_act batch.now }
 {
     match batch.last() {
         Some(entry) => ending_of(&entry.item),
@@ -57,8 +55,7 @@ pub fn ending(batch: &[Entry]) -> Option<Act>
 }
 
 fn ending_of(item: &Item) -> Option<Act>
-    ensures act { result ≡ ending_item item.now }
-    ensures unfired { NeverFires result }
+    ensures { result ≡ ending_item item.now }
 {
     match item {
         Item::Halt => Some(Act::Halted),
@@ -85,10 +82,11 @@ pub fn block_of_instance(
     }
 }
 
-/// Does a block, and answers what it did to the facts.
+/// Does a block, and answers what it did to the facts. After want of memory they are as before.
 pub fn do_block(alloc: Global, facts: &mut Facts, block: &Block) -> Result<Effect, OutOfMemory>
     ensures effect { IfOk result (λ effect. effect ≡ effect_of_block facts.old.list block.now) }
     ensures facts { OnOk result (facts.new.list ≡ facts_after_block facts.old.list block.now) }
+    ensures err { OnErr result (facts.new.list ≡ facts.old.list) }
 {
     match block {
         Block::Void => Ok(Effect::Void),
