@@ -6,9 +6,10 @@ use Rattle.session_states.specs.declared.turn.Act.TheVariants.{StoppedQuiet, Res
 use Rattle.rif_values.specs.declared.instance.Instance.{Instance}
 use Rattle.prd_relation.specs.RuleSystem.{RuleSystem}
 use Rattle.std.specs.declared.option.Option.{Option}
-use Rattle.prd_relation.specs.declared.session.PlainSession.{PlainSession}
-use Rattle.prd_relation.specs.Session.{Shows}
 use Rattle.prd_relation.specs.Turns.{Session, outcome_in, with_budget, firing_of, block_at, unfired}
+use Rattle.rif_engine.specs.declared.standing.Standing.{Standing}
+use Rattle.rif_engine.specs.Listings.{moments_seen}
+use Rattle.rif_engine.specs.Standing.{Shows}
 
 with_some : (system : RuleSystem) (s : Session) (next : ℕ → State) (left : ℕ) (i : Instance) → 0 < left
     → with_budget system s next left i ≡ firing_of s (next (left - 1)) i (block_at system s i)
@@ -39,17 +40,17 @@ pub outcome_resting : (system : RuleSystem) (s : Session) (left : ℕ) (state : 
 outcome_resting system s left state choice is none = rw (is, none) refl
 
 -- a session that another state is put into
-pub shows_in : (system : RuleSystem) (old new : PlainSession) (s : Session) (state : State)
+pub shows_in : (system : RuleSystem) (old new : Standing) (s : Session) (state : State)
     → new ≡ record old { state = state } → Shows system old s → Shows system new (record s { state = state })
 shows_in system old new s state is shown = record {
-  state = ap (λ (p : PlainSession). p.state) is;
-  facts = ap (λ (p : PlainSession). p.facts.list) is ∙ shown.facts;
-  moments = ap (λ (p : PlainSession). p.history) is ∙ shown.moments;
-  made = ap (λ (p : PlainSession). p.made) is ∙ shown.made;
+  state = ap (λ (p : Standing). p.state) is;
+  facts = ap (λ (p : Standing). p.facts.list) is ∙ shown.facts;
+  moments = ap (λ (p : Standing). moments_seen system p.listing p.facts.list) is ∙ shown.moments;
+  made = ap (λ (p : Standing). p.made) is ∙ shown.made;
 }
 
 -- and a session whose state it is already
-pub shows_state : (system : RuleSystem) (plain : PlainSession) (s : Session) (state : State) → plain.state ≡ state
-    → Shows system plain s → Shows system plain (record s { state = state })
-shows_state system plain s state is shown =
+pub shows_state : (system : RuleSystem) (standing : Standing) (s : Session) (state : State) → standing.state ≡ state
+    → Shows system standing s → Shows system standing (record s { state = state })
+shows_state system standing s state is shown =
     record { state = is; facts = shown.facts; moments = shown.moments; made = shown.made }

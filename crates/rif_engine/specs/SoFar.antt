@@ -4,6 +4,7 @@
 --     session_now run        the session now: while an act is owed, with the items of its batch taken
 --     turns_of run           the turns: those of the run of the batches that are done, and behind them an unsettled one
 --                            while an act is owed
+--     settled_run run        the run with the act settled that is owed, where one is
 --     last_act_of run        the act of the last turn, and None where there is no turn or an act is owed
 --     MayTake run batch      the batch may enter: no act is owed, the session isn't disposed, and where the batch is
 --                            empty, the last turn fired
@@ -57,3 +58,11 @@ pub record MayTake (run : RunSoFar) (batch : List Entry) : Type 0 where
   pub settled : run.owed ≡ None
   pub live : (session_before run).state ≢ Disposed
   pub follows : batch ≡ [] → last_act_of run ≡ Some Fired
+
+-- the batch whose act is owed, as a list
+abbrev pub owed_batches : Option (List Entry) → List (List Entry)
+owed_batches None = []
+owed_batches (Some batch) = batch ∷ []
+
+abbrev pub settled_run : RunSoFar → RunSoFar
+settled_run run = record { doc = run.doc; done = run.done ++ owed_batches run.owed; owed = None }

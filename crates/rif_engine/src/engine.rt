@@ -1,9 +1,11 @@
-ghost use Rattle.std.specs.Prelude.{◌≡◌, ◌++◌, ◌∷◌, [], IfErr, IfOk, IsTrue, None, OnErr, OnOk, Some, ◌≢◌, ◌↔◌};
+ghost use Rattle.std.specs.Prelude.{◌≡◌, ◌<◌, ◌++◌, ◌∷◌, List, [], IfErr, IfOk, IsTrue, None, OnErr, OnOk, Some};
+ghost use Rattle.std.specs.Prelude.{vec_capacity, vec_len};
 ghost use Rattle.std.specs.Option.{is_some};
 ghost use Rattle.prd_relation.specs.History.{newest_facts};
-ghost use Rattle.rif_engine.specs.Keeping.{Keeps};
-ghost use Rattle.rif_engine.specs.SoFar.{last_act_of, MayTake, RunSoFar, session_now, turns_of};
-ghost use Rattle.rif_engine.specs.Engines.{with_act};
+ghost use Rattle.session_states.specs.declared.item.Entry.{Entry};
+ghost use Rattle.session_states.specs.declared.turn.Turn.{Turn};
+ghost use Rattle.rif_engine.specs.Keeping.{settled_turn};
+ghost use Rattle.rif_engine.specs.SoFar.{last_act_of, MayTake, session_now, settled_run, turns_of, unsettled_turns};
 
 use crate::settled::Settled;
 use crate::standing::Standing;
@@ -90,8 +92,8 @@ impl Engine {
     /// Source: RIF-PRD, "Operational semantics of a production rule system"; acts are our own (docs/PROFILE.md,
     /// "Turns").
     pub fn act(&mut self, alloc: Global) -> Result<Act, OutOfMemory>
-        requires { self.old.owed ≢ None }
-        ensures ok { OnOk result (self.new ≡ with_act self.old) }
+        requires { IsTrue (is_some self.old.owed) }
+        ensures ok { OnOk result (self.new ≡ settled_run self.old) }
         ensures act { IfOk result (λ act. last_act_of self.new ≡ Some act) }
         ensures err { OnErr result (self.new ≡ self.old) }
     {
@@ -156,7 +158,7 @@ impl Engine {
 
 // Puts the turn of a batch at the end, whose act is owed.
 fn push_unsettled(turns: &mut Vec<Turn>, batch: Batch)
-    requires { HasRoom turns.old }
+    requires { vec_len turns.old < vec_capacity turns.old }
     ensures { turns.new.items ≡ turns.old.items ++ unsettled_turns (Some batch) }
 {
     match turns.push(Turn {

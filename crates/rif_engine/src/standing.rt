@@ -42,12 +42,7 @@ impl Standing {
     }
 
     /// Takes the items of a batch in order. After want of memory it stands for the same session as before.
-    pub fn take(
-        &mut self,
-        alloc: Global,
-        doc: &SafeDoc,
-        batch: &[Entry],
-    ) -> Result<(), OutOfMemory>
+    pub fn take(&mut self, alloc: Global, doc: &SafeDoc, batch: &[Entry]) -> Result<(), OutOfMemory>
         ensures ok { (s : Session) → Shows (system_of doc.now) self.old s
             → OnOk result (Shows (system_of doc.now) self.new (session_with s batch.now)) }
         ensures err { (s : Session) → Shows (system_of doc.now) self.old s

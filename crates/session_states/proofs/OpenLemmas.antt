@@ -23,10 +23,12 @@ ends_more : (entries : List Entry) (entry : Entry) → EndsLast entries → ends
 ends_more [] entry ends mild = tt
 ends_more (e ∷ []) entry ends mild = (mild, tt)
 ends_more (e ∷ next ∷ entries) entry ends mild =
-    let place : length (e ∷ next ∷ entries) - 1 ≡ suc (length (next ∷ entries) - 1) = omega arith in
-    (ends.0, ends_more (next ∷ entries) entry ends.1
-    (sym (ap (λ n. option_map_or (λ (x : Entry). ends_batch x.item) (slice_get (e ∷ next ∷ entries) n) false) place)
-    ∙ mild))
+    let place : length (e ∷ next ∷ entries) - 1 ≡ suc (length (next ∷ entries) - 1) = omega arith in (
+      ends.0,
+      ends_more (next ∷ entries) entry ends.1
+          (sym (ap (λ n. option_map_or (λ (x : Entry). ends_batch x.item) (slice_get (e ∷ next ∷ entries) n) false) place)
+          ∙ mild),
+    )
 
 longer : (entries : List Entry) (entry : Entry) → nat_lt (length entries) most_batch_items ≡ true
     → length (entries ++ entry ∷ []) ≤ most_batch_items

@@ -1,0 +1,4 @@
+pub mod Keeping
+pub mod Listings
+pub mod SoFar
+pub mod Standing
