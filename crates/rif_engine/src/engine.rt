@@ -36,6 +36,11 @@ pub struct Engine {
 impl Model for Engine {
     ghost use Rattle.rif_engine.specs.Keeping.{Keeps, run_in};
     ghost use Rattle.rif_engine.specs.SoFar.{RunSoFar};
+    ghost use Rattle.std.specs.Coded.{codes};
+    ghost use Rattle.rif_tree.specs.contracts.tree.Formula as formula;
+    ghost use Rattle.rif_tree.specs.contracts.tree.Term as term;
+
+    ghost coded = { Prim.hlevel (codes, formula.the_row.coded, term.the_row.coded) };
 
     ghost Value = { RunSoFar };
 

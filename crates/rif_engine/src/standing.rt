@@ -22,6 +22,7 @@ pub struct Standing {
 
 impl Standing {
     ghost use Rattle.std.specs.Prelude.{◌≡◌, ◌≤◌, ◌^◌, IfOk, None, OnErr, OnOk};
+    ghost use Rattle.session_states.specs.declared.turn.Effect.TheVariants.{None as NoEffect};
     ghost use Rattle.prd_relation.specs.Choice.{chosen_instance};
     ghost use Rattle.prd_relation.specs.History.{moments_of};
     ghost use Rattle.prd_relation.specs.RuleSystem.{system_of};
@@ -112,7 +113,7 @@ impl Standing {
     }
 
     fn stop(&mut self, act: Act) -> Settled
-        ensures settled { result ≡ record { act = act; pick = None; effect = Effect.None } }
+        ensures settled { result ≡ record { act = act; pick = None; effect = NoEffect } }
         ensures stopped { self.new ≡ record self.old { state = State.Idle } }
     {
         self.state = State::Idle;

@@ -2,7 +2,7 @@ use Rattle.std.proofs.Common.{[], refl}
 use Rattle.session_states.specs.declared.item.Entry.{Entry}
 use Rattle.prd_relation.specs.Turns.{change_of}
 use Rattle.rif_values.proofs.CallerLemmas.{found_step}
-use Rattle.prd_relation.proofs.steps.changes_of.Goals as goal
+use Rattle.rif_engine.proofs.steps.changes_of.Goals as goal
 
 pub loop-entry-preserved : goal.loop-entry-preserved
 loop-entry-preserved c =

@@ -1,0 +1,101 @@
+-- One more turn of a replay.
+use Rattle.std.proofs.Common.{◌≡◌, ◌≢◌, ◌∙◌, Bool, true, false, List, [], ◌∷◌, ◌++◌, Some, None, refl, ap, sym, subst}
+use Rattle.std.proofs.Common.{append_assoc, append-nil}
+use Rattle.session_states.specs.declared.item.Entry.{Entry}
+use Rattle.session_states.specs.declared.state.State.TheVariants.{Disposed}
+use Rattle.session_states.specs.declared.turn.Act.{Act}
+use Rattle.session_states.specs.declared.turn.Act.TheVariants.{Fired}
+use Rattle.session_states.specs.Batches.{AreLawfulBehind, AreLawfulBatches, IsLawful, is_disposing}
+use Rattle.prd_relation.specs.Laws.{DisposesOnlyByDispose, FiringsStayLive}
+use Rattle.prd_relation.specs.RuleSystem.{RuleSystem, system_of}
+use Rattle.prd_relation.specs.Runs.{fires, session_at_end, IsReplay, IsReplayFrom}
+use Rattle.prd_relation.specs.Turns.{Session, first_session, outcome_of, session_after}
+use Rattle.rif_engine.specs.Replaying.{IsReplayed}
+use Rattle.rif_engine.specs.SoFar.{RunSoFar, MayTake, last_act_of, session_before}
+use Rattle.rif_engine.proofs.EngineLemmas.{end_more}
+
+-- the run with one more turn
+abbrev pub with_turn : RunSoFar → List Entry → RunSoFar
+with_turn run batch = record { doc = run.doc; done = run.done ++ batch ∷ []; owed = None }
+
+ended : (run : RunSoFar) (batch : List Entry)
+    → session_before (with_turn run batch) ≡ session_after (system_of run.doc) (session_before run) batch
+ended run batch = end_more (system_of run.doc) first_session run.done batch
+
+-- what follows a turn whose batch may come next
+goes : (given before after : List (List Entry)) (fired now : Bool) (run : RunSoFar) (batch : List Entry)
+    → ((more : List (List Entry)) → IsReplayFrom (system_of run.doc) (session_before run) fired before more
+    → IsReplay (system_of run.doc) given (run.done ++ more))
+    → now ≡ fires (system_of run.doc) (session_before run) batch
+    → ((more : List (List Entry))
+    → IsReplayFrom (system_of run.doc) (session_after (system_of run.doc) (session_before run) batch)
+    (fires (system_of run.doc) (session_before run) batch) after more
+    → IsReplayFrom (system_of run.doc) (session_before run) fired before (batch ∷ more))
+    → (more : List (List Entry))
+    → IsReplayFrom (system_of run.doc) (session_before (with_turn run batch)) now after more
+    → IsReplay (system_of run.doc) given ((run.done ++ batch ∷ []) ++ more)
+goes given before after fired now run batch goes_on fires_is comes more rest =
+    let system = system_of run.doc in
+    subst (λ (bs : List (List Entry)). IsReplay system given bs) (sym (append_assoc run.done (batch ∷ []) more))
+    (goes_on (batch ∷ more) (comes more
+    (subst (λ (f : Bool). IsReplayFrom system (session_after system (session_before run) batch) f after more) fires_is
+    (subst (λ (s : Session). IsReplayFrom system s now after more) (ended run batch) rest))))
+
+-- a given batch is not the one before which a session was disposed
+pub may_take : (given left : List (List Entry)) (run : RunSoFar) (batch : List Entry)
+    → IsReplayed given (batch ∷ left) false run → MayTake run batch
+may_take given left run batch replayed = record {
+  settled = replayed.settled;
+  live = λ is. cc (sym (replayed.tells is) ∙ replayed.lawful.2);
+  follows = λ empty. absurd (replayed.lawful.1 empty);
+}
+
+pub next_given : DisposesOnlyByDispose → (given left : List (List Entry)) (now : Bool) (run : RunSoFar)
+    (batch : List Entry) → now ≡ fires (system_of run.doc) (session_before run) batch
+    → IsReplayed given (batch ∷ left) false run → IsReplayed given left now (with_turn run batch)
+next_given only given left now run batch fires_is replayed =
+    let system = system_of run.doc in record {
+      settled = refl;
+      disposed = is_disposing batch;
+      lawful = replayed.lawful.3;
+      tells = λ is. only system (session_before run) batch replayed.lawful.0
+          (λ at. cc (sym (replayed.tells at) ∙ replayed.lawful.2))
+          (sym (ap (λ (s : Session). s.state) (ended run batch)) ∙ is);
+      goes_on = goes given (batch ∷ left) left false now run batch replayed.goes_on fires_is (λ more rest. (refl, rest));
+    }
+
+-- an empty batch, after a firing
+pub next_empty : DisposesOnlyByDispose → IsLawful [] → (given left : List (List Entry)) (now : Bool) (run : RunSoFar)
+    → MayTake run [] → now ≡ fires (system_of run.doc) (session_before run) []
+    → IsReplayed given left true run → IsReplayed given left now (with_turn run [])
+next_empty only lawful given left now run may fires_is replayed =
+    let system = system_of run.doc in record {
+      settled = refl;
+      disposed = replayed.disposed;
+      lawful = replayed.lawful;
+      tells = λ is. cc (only system (session_before run) [] lawful may.live
+          (sym (ap (λ (s : Session). s.state) (ended run [])) ∙ is));
+      goes_on = goes given left left true now run [] replayed.goes_on fires_is (λ more rest. (refl, rest));
+    }
+
+-- nothing is done yet
+pub none_replayed : (given : List (List Entry)) (run : RunSoFar) → run.done ≡ [] → run.owed ≡ None
+    → AreLawfulBatches given → IsReplayed given given false run
+none_replayed given run none settled lawful =
+    let system = system_of run.doc in record {
+      settled = settled;
+      disposed = false;
+      lawful = lawful;
+      tells = λ is. cc (sym (ap (λ (bs : List (List Entry)). (session_at_end system first_session bs).state) none) ∙ is);
+      goes_on = λ more rest. subst (λ (bs : List (List Entry)). IsReplay system given (bs ++ more)) (sym none)
+          (subst (λ (bs : List (List Entry)). IsReplayFrom system (session_at_end system first_session bs) false given
+          more) none rest);
+    }
+
+-- all is done
+pub all_replayed : (given left : List (List Entry)) (run : RunSoFar) → left ≡ [] → IsReplayed given left false run
+    → IsReplay (system_of run.doc) given run.done
+all_replayed given left run none replayed =
+    let done = subst (λ (bs : List (List Entry)). IsReplayed given bs false run) none replayed in
+    subst (λ (bs : List (List Entry)). IsReplay (system_of run.doc) given bs) (append-nil run.done)
+    (done.goes_on [] tt)
