@@ -6,6 +6,7 @@ use Rattle.std.specs.declared.option.Option.{Option}
 use Rattle.safe_rules.specs.declared.safe_rule.SafeRule.{SafeRule}
 use Rattle.session_states.specs.declared.item.Entry.{Entry}
 use Rattle.session_states.specs.declared.turn.Act.{Act}
+use Rattle.session_states.specs.declared.turn.Effect.TheVariants.{None as NoEffect}
 use Rattle.session_states.specs.declared.turn.Turn.{Turn}
 use Rattle.prd_relation.specs.RuleSystem.{RuleSystem, system_of}
 use Rattle.prd_relation.specs.Runs.{run_of, session_at_end, turns_from}
@@ -13,8 +14,8 @@ use Rattle.prd_relation.specs.Turns.{Session, first_session, outcome_of, session
 use Rattle.rif_engine.specs.declared.settled.Settled.{Settled}
 use Rattle.rif_engine.specs.declared.standing.Standing.{Standing}
 use Rattle.rif_engine.specs.Keeping.{done_in, owed_in, run_in, settled_turn, Keeps}
-use Rattle.rif_engine.specs.SoFar.{RunSoFar, last_act, owed_batches, session_now, session_with_owed, settled_run}
-use Rattle.rif_engine.specs.SoFar.{turns_of, unsettled_turns}
+use Rattle.rif_engine.specs.SoFar.{MayTake, RunSoFar, last_act, last_act_of, owed_batches, session_before, session_now}
+use Rattle.rif_engine.specs.SoFar.{session_with_owed, settled_run, turns_of, unsettled_turns}
 use Rattle.rif_engine.specs.Standing.{Settles, Shows}
 
 -- ---- what turns tell
@@ -150,3 +151,64 @@ owed_session run batch owed =
 -- the act of the last turn
 pub last_settled : (turns all : List Turn) (turn : Turn) → all ≡ turns ++ turn ∷ [] → last_act all ≡ turn.act
 last_settled turns all turn is = ap (option_and_then (λ (t : Turn). t.act)) (last_of turns turn all is)
+
+-- ---- the engine's calls
+
+-- a batch was taken
+pub batch_taken : (run : RunSoFar) (doc : List SafeRule) (turns new : List Turn) (old standing : Standing)
+    (batch : List Entry) → run_in doc turns ≡ run → Keeps doc turns old → MayTake run batch
+    → new ≡ turns ++ unsettled_turns (Some batch)
+    → Shows (system_of doc) standing (session_with (session_now (run_in doc turns)) batch)
+    → Keeps doc new standing × (run_in doc new ≡ record run { owed = Some batch })
+batch_taken run doc turns new old standing batch seen keeps may is shown =
+    let before = run_in doc turns in
+    let none : before.owed ≡ None = ap (λ (r : RunSoFar). r.owed) seen ∙ may.settled in
+    let after = record before { owed = Some batch } in
+    let are : new ≡ turns_of after = turns_taken before batch turns new none keeps.turns_are is in
+    let shows : Shows (system_of doc) standing (session_now after) =
+    subst (λ (o : Option (List Entry)). Shows (system_of doc) standing
+    (session_with (session_with_owed (session_before before) o) batch)) none shown in (
+      keeps_run after doc new standing refl are shows,
+      run_seen after doc new refl are ∙ ap (λ (r : RunSoFar). record r { owed = Some batch }) seen,
+    )
+
+-- an act was settled
+pub act_settled : (run : RunSoFar) (doc : List SafeRule) (turns new : List Turn) (old standing : Standing)
+    (settled : Settled) (batch : List Entry) → run_in doc turns ≡ run → Keeps doc turns old → run.owed ≡ Some batch
+    → Settles settled (outcome_of (system_of doc) (session_before (run_in doc turns)) batch)
+    → Shows (system_of doc) standing (session_after (system_of doc) (session_before (run_in doc turns)) batch)
+    → new ≡ run_of (system_of doc) (done_in turns) ++ settled_turn batch settled ∷ []
+    → Keeps doc new standing × (run_in doc new ≡ settled_run run) × (last_act_of (run_in doc new) ≡ Some settled.act)
+act_settled run doc turns new old standing settled batch seen keeps owed settles shown is =
+    let before = run_in doc turns in
+    let owes : before.owed ≡ Some batch = ap (λ (r : RunSoFar). r.owed) seen ∙ owed in
+    let after = settled_run before in
+    let are : new ≡ turns_of after = turns_settled before batch settled new owes settles is in
+    let kept = keeps_run after doc new standing refl are (session_settled before batch standing owes shown) in (
+      kept,
+      run_seen after doc new refl are ∙ ap settled_run seen,
+      ap last_act (sym kept.turns_are)
+          ∙ last_settled (run_of (system_of doc) (done_in turns)) new (settled_turn batch settled) is,
+    )
+
+abbrev batch_or : List Entry → Option Turn → List Entry
+batch_or batch None = batch
+batch_or batch (Some turn) = turn.batch
+
+-- the batch whose act is owed is that of the last turn
+pub owed_batch : (run : RunSoFar) (doc : List SafeRule) (turns : List Turn) (standing : Standing) (turn : Turn)
+    → run_in doc turns ≡ run → Keeps doc turns standing → IsTrue (is_some run.owed)
+    → slice_get turns (length turns - 1) ≡ Some turn
+    → (run.owed ≡ Some turn.batch)
+    × (turns ≡ run_of (system_of doc) (done_in turns) ++ unsettled_turns (Some turn.batch))
+owed_batch run doc turns standing turn seen keeps some at =
+    let owed = owed_is run.owed some in
+    let before = run_in doc turns in
+    let owes : before.owed ≡ Some owed.0 = ap (λ (r : RunSoFar). r.owed) seen ∙ owed.1 in
+    let are = owed_turns before owed.0 turns owes keeps.turns_are in
+    let last : Some (record { batch = owed.0; act = None; pick = None; effect = NoEffect }) ≡ Some turn =
+    sym (last_of (run_of (system_of doc) (done_in turns)) _ turns are) ∙ at in
+    let same : owed.0 ≡ turn.batch = ap (λ (t : Option Turn). batch_or owed.0 t) last in (
+      owed.1 ∙ ap (λ (b : List Entry). Some b) same,
+      are ∙ ap (λ (b : List Entry). run_of (system_of doc) (done_in turns) ++ unsettled_turns (Some b)) same,
+    )

@@ -1,2 +1,3 @@
-pub mod TurnLemmas
 pub mod EngineLemmas
+pub mod ReplayLemmas
+pub mod TurnLemmas

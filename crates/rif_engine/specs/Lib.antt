@@ -1,4 +1,5 @@
 pub mod Keeping
 pub mod Listings
+pub mod Replaying
 pub mod SoFar
 pub mod Standing

@@ -30,7 +30,7 @@ pub struct Engine {
     doc: SafeDoc,
     // the last one has no act while it is owed
     turns: Vec<Turn>,
-    now: Standing,
+    standing: Standing,
 }
 
 impl Model for Engine {
@@ -46,7 +46,7 @@ impl Model for Engine {
 
     ghost view = { λ engine. run_in engine.doc engine.turns.items };
 
-    ghost invariant = { λ engine. Keeps engine.doc engine.turns.items engine.now };
+    ghost invariant = { λ engine. Keeps engine.doc engine.turns.items engine.standing };
 }
 
 impl Engine {
@@ -54,11 +54,11 @@ impl Engine {
     pub fn start(alloc: Global, doc: SafeDoc) -> Result<Engine, OutOfMemory>
         ensures { IfOk result (λ engine. engine ≡ record { doc = doc; done = []; owed = None }) }
     {
-        let now = Standing::start(alloc, &doc)?;
+        let standing = Standing::start(alloc, &doc)?;
         Ok(Engine {
             doc,
             turns: Vec::new(alloc),
-            now,
+            standing,
         })
     }
 
@@ -79,7 +79,7 @@ impl Engine {
         if self.turns.reserve(1).is_err() {
             return Err((batch, OutOfMemory));
         }
-        match self.now.take(alloc, &self.doc, batch.entries()) {
+        match self.standing.take(alloc, &self.doc, batch.entries()) {
             Ok(()) => {
                 push_unsettled(&mut self.turns, batch);
                 Ok(())
@@ -106,7 +106,7 @@ impl Engine {
             unreachable!()
         };
         let end = ending(turn.batch.entries());
-        let settled = self.now.settle(alloc, &self.doc, end)?;
+        let settled = self.standing.settle(alloc, &self.doc, end)?;
         let act = settled.act;
         settle_last(&mut self.turns, settled);
         Ok(act)
@@ -136,7 +136,7 @@ impl Engine {
     pub fn state(&self) -> State
         ensures { result ≡ (session_now self.now).state }
     {
-        self.now.state
+        self.standing.state
     }
 
     /// The document of `start`, in constant time.
@@ -157,7 +157,7 @@ impl Engine {
     pub fn facts(&self) -> &Facts
         ensures { result.now.list ≡ newest_facts (session_now self.now).history }
     {
-        &self.now.facts
+        &self.standing.facts
     }
 }
 

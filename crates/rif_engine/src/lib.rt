@@ -5,7 +5,7 @@
 //! | File | Has | Its words |
 //! |---|---|---|
 //! | `engine.rt` | `Engine`, a run so far | `specs/SoFar.antt`, `specs/Keeping.antt` |
-//! | `replay.rt` | `replay`, the run of some batches | `specs/Replaying.antt` |
+//! | `replaying.rt` | `replay`, the run of some batches | `specs/Replaying.antt` |
 //! | `standing.rt`, `settled.rt` | the session between two turns, and what a turn came to | `specs/Standing.antt` |
 //! | `steps.rt` | the steps of a turn that need no session | |
 //! | `listing.rt` | how the chosen instance is found | `specs/Listings.antt` |
@@ -15,8 +15,10 @@
 
 mod engine;
 mod listing;
+mod replaying;
 mod settled;
 mod standing;
 mod steps;
 
 pub use engine::Engine;
+pub use replaying::replay;
