@@ -1,6 +1,6 @@
 -- The run that an engine's turns tell.
 use Rattle.std.proofs.Common.{◌≡◌, ◌∙◌, ◌-◌, suc, List, [], ◌∷◌, ◌++◌, Some, None, refl, ap, sym, subst, length}
-use Rattle.std.proofs.Common.{slice_get, append-nil, arith, IsTrue}
+use Rattle.std.proofs.Common.{slice_get, slice_index_or, slice_set, append-nil, arith, IsTrue, ℕ}
 use Rattle.std.specs.Option.{is_some, option_and_then}
 use Rattle.std.specs.declared.option.Option.{Option}
 use Rattle.safe_rules.specs.declared.safe_rule.SafeRule.{SafeRule}
@@ -212,3 +212,32 @@ owed_batch run doc turns standing turn seen keeps some at =
       owed.1 ∙ ap (λ (b : List Entry). Some b) same,
       are ∙ ap (λ (b : List Entry). run_of (system_of doc) (done_in turns) ++ unsettled_turns (Some b)) same,
     )
+
+-- ---- the last turn is written
+
+-- the last of some items is another one
+pub set_last : (before items : List Turn) (old new : Turn) (n : ℕ) → items ≡ before ++ old ∷ [] → n ≡ length items
+    → slice_set items (n - 1) new ≡ before ++ new ∷ []
+set_last before items old new n is count =
+    ap (λ (m : ℕ). slice_set items (m - 1) new) count
+    ∙ ap (λ (ts : List Turn). slice_set ts (length ts - 1) new) is ∙ at before
+  where
+    at : (ts : List Turn) → slice_set (ts ++ old ∷ []) (length (ts ++ old ∷ []) - 1) new ≡ ts ++ new ∷ []
+    at [] = refl
+    at (t ∷ []) = refl
+    at (t ∷ u ∷ ts) =
+        let place : length (t ∷ u ∷ ts ++ old ∷ []) - 1 ≡ suc (length (u ∷ ts ++ old ∷ []) - 1) = omega arith in
+        ap (λ (m : ℕ). slice_set (t ∷ u ∷ ts ++ old ∷ []) m new) place ∙ ap (λ (rest : List Turn). t ∷ rest) (at (u ∷ ts))
+
+pub index_last : (before items : List Turn) (last other : Turn) (n : ℕ) → items ≡ before ++ last ∷ []
+    → n ≡ length items → slice_index_or items (n - 1) other ≡ last
+index_last before items last other n is count =
+    ap (λ (m : ℕ). slice_index_or items (m - 1) other) count
+    ∙ ap (λ (ts : List Turn). slice_index_or ts (length ts - 1) other) is ∙ at before
+  where
+    at : (ts : List Turn) → slice_index_or (ts ++ last ∷ []) (length (ts ++ last ∷ []) - 1) other ≡ last
+    at [] = refl
+    at (t ∷ []) = refl
+    at (t ∷ u ∷ ts) =
+        let place : length (t ∷ u ∷ ts ++ last ∷ []) - 1 ≡ suc (length (u ∷ ts ++ last ∷ []) - 1) = omega arith in
+        ap (λ (m : ℕ). slice_index_or (t ∷ u ∷ ts ++ last ∷ []) m other) place ∙ at (u ∷ ts)

@@ -4,6 +4,7 @@ use Rattle.session_states.specs.declared.state.State.{State}
 use Rattle.session_states.specs.declared.state.State.TheVariants.{Idle, Firing, UntilHalt}
 use Rattle.session_states.specs.declared.turn.Act.TheVariants.{StoppedQuiet, Resting}
 use Rattle.rif_values.specs.declared.instance.Instance.{Instance}
+use Rattle.rif_facts.specs.FactsWithRoom.{FactsWithRoom}
 use Rattle.prd_relation.specs.RuleSystem.{RuleSystem}
 use Rattle.std.specs.declared.option.Option.{Option}
 use Rattle.prd_relation.specs.Turns.{Session, outcome_in, with_budget, firing_of, block_at, unfired}
@@ -39,18 +40,14 @@ pub outcome_resting : (system : RuleSystem) (s : Session) (left : ℕ) (state : 
     → outcome_in system s state choice ≡ unfired Resting (UntilHalt left) s
 outcome_resting system s left state choice is none = rw (is, none) refl
 
--- a session that another state is put into
-pub shows_in : (system : RuleSystem) (old new : Standing) (s : Session) (state : State)
-    → new ≡ record old { state = state } → Shows system old s → Shows system new (record s { state = state })
-shows_in system old new s state is shown = record {
-  state = ap (λ (p : Standing). p.state) is;
-  facts = ap (λ (p : Standing). p.facts.list) is ∙ shown.facts;
-  moments = ap (λ (p : Standing). moments_seen system p.listing p.facts.list) is ∙ shown.moments;
-  made = ap (λ (p : Standing). p.made) is ∙ shown.made;
+-- a session whose history is listed further
+pub shows_listed : (system : RuleSystem) (old new : Standing) (s : Session) → new.state ≡ old.state
+    → new.facts ≡ old.facts → new.made ≡ old.made
+    → moments_seen system new.listing old.facts.list ≡ moments_seen system old.listing old.facts.list
+    → Shows system old s → Shows system new s
+shows_listed system old new s state facts made kept shown = record {
+  state = state ∙ shown.state;
+  facts = ap (λ (f : FactsWithRoom). f.list) facts ∙ shown.facts;
+  moments = ap (λ (f : FactsWithRoom). moments_seen system new.listing f.list) facts ∙ kept ∙ shown.moments;
+  made = made ∙ shown.made;
 }
-
--- and a session whose state it is already
-pub shows_state : (system : RuleSystem) (standing : Standing) (s : Session) (state : State) → standing.state ≡ state
-    → Shows system standing s → Shows system standing (record s { state = state })
-shows_state system standing s state is shown =
-    record { state = is; facts = shown.facts; moments = shown.moments; made = shown.made }
