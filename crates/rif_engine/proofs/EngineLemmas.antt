@@ -241,3 +241,14 @@ index_last before items last other n is count =
     at (t ∷ u ∷ ts) =
         let place : length (t ∷ u ∷ ts ++ last ∷ []) - 1 ≡ suc (length (u ∷ ts ++ last ∷ []) - 1) = omega arith in
         ap (λ (m : ℕ). slice_index_or (t ∷ u ∷ ts ++ last ∷ []) m other) place ∙ at (u ∷ ts)
+
+-- the act of the last turn that is done
+pub last_done : (run : RunSoFar) (batch : List Entry)
+    → last_act_of (record { doc = run.doc; done = run.done ++ batch ∷ []; owed = None })
+    ≡ Some (outcome_of (system_of run.doc) (session_before run) batch).act
+last_done run batch =
+    let system = system_of run.doc in
+    let all = run_of system (run.done ++ batch ∷ []) in
+    ap last_act (append-nil all)
+    ∙ last_settled (run_of system run.done) all (turn_of system (session_before run) batch)
+    (turns_more system first_session run.done batch)

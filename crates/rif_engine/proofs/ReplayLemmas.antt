@@ -1,18 +1,23 @@
 -- One more turn of a replay.
 use Rattle.std.proofs.Common.{◌≡◌, ◌≢◌, ◌∙◌, Bool, true, false, List, [], ◌∷◌, ◌++◌, Some, None, refl, ap, sym, subst}
 use Rattle.std.proofs.Common.{append_assoc, append-nil}
+use denote.Enum.Bare.{sameb}
+use Rattle.std.specs.Option.{option_map_or}
+use Rattle.std.specs.declared.option.Option.{Option}
 use Rattle.session_states.specs.declared.item.Entry.{Entry}
 use Rattle.session_states.specs.declared.state.State.TheVariants.{Disposed}
 use Rattle.session_states.specs.declared.turn.Act.{Act}
-use Rattle.session_states.specs.declared.turn.Act.TheVariants.{Fired}
+use Rattle.session_states.specs.contracts.turn.Act.{the_type}
+use Rattle.session_states.specs.declared.turn.Act.TheVariants.{Idle as IdleAct, Halted, Disposed as DisposedAct}
+use Rattle.session_states.specs.declared.turn.Act.TheVariants.{Fired, StoppedQuiet, StoppedLimit, Resting}
 use Rattle.session_states.specs.Batches.{AreLawfulBehind, AreLawfulBatches, IsLawful, is_disposing}
 use Rattle.prd_relation.specs.Laws.{DisposesOnlyByDispose, FiringsStayLive}
 use Rattle.prd_relation.specs.RuleSystem.{RuleSystem, system_of}
-use Rattle.prd_relation.specs.Runs.{fires, session_at_end, IsReplay, IsReplayFrom}
+use Rattle.prd_relation.specs.Runs.{fires, is_fired, session_at_end, IsReplay, IsReplayFrom}
 use Rattle.prd_relation.specs.Turns.{Session, first_session, outcome_of, session_after}
 use Rattle.rif_engine.specs.Replaying.{IsReplayed}
 use Rattle.rif_engine.specs.SoFar.{RunSoFar, MayTake, last_act_of, session_before}
-use Rattle.rif_engine.proofs.EngineLemmas.{end_more}
+use Rattle.rif_engine.proofs.EngineLemmas.{end_more, last_done}
 
 -- the run with one more turn
 abbrev pub with_turn : RunSoFar → List Entry → RunSoFar
@@ -99,3 +104,43 @@ all_replayed given left run none replayed =
     let done = subst (λ (bs : List (List Entry)). IsReplayed given bs false run) none replayed in
     subst (λ (bs : List (List Entry)). IsReplay (system_of run.doc) given bs) (append-nil run.done)
     (done.goes_on [] tt)
+
+-- ---- whether a turn fired
+
+pub same_fired : (act : Act) (b : Bool) → b ≡ sameb the_type act Fired → b ≡ is_fired act
+same_fired IdleAct b is = is
+same_fired Halted b is = is
+same_fired DisposedAct b is = is
+same_fired Fired b is = is
+same_fired StoppedQuiet b is = is
+same_fired StoppedLimit b is = is
+same_fired Resting b is = is
+
+is_firing : (act : Act) → is_fired act ≡ true → act ≡ Fired
+is_firing IdleAct is = absurd (cc is)
+is_firing Halted is = absurd (cc is)
+is_firing DisposedAct is = absurd (cc is)
+is_firing Fired is = refl
+is_firing StoppedQuiet is = absurd (cc is)
+is_firing StoppedLimit is = absurd (cc is)
+is_firing Resting is = absurd (cc is)
+
+-- a turn whose act was answered fired, or not
+pub fired_is : (run new : RunSoFar) (batch : List Entry) (act : Act) → new ≡ with_turn run batch
+    → last_act_of new ≡ Some act → is_fired act ≡ fires (system_of run.doc) (session_before run) batch
+fired_is run new batch act is last =
+    let same : Some act ≡ Some (outcome_of (system_of run.doc) (session_before run) batch).act =
+    sym last ∙ ap last_act_of is ∙ last_done run batch in
+    ap (λ (o : Option Act). option_map_or is_fired o false) same
+
+-- behind a turn that fired an empty batch may come
+pub empty_may_follow : FiringsStayLive → (run new : RunSoFar) (batch : List Entry) (act : Act)
+    → new ≡ with_turn run batch → last_act_of new ≡ Some act → is_fired act ≡ true → MayTake new []
+empty_may_follow stay run new batch act is last fired =
+    let system = system_of run.doc in record {
+      settled = ap (λ (r : RunSoFar). r.owed) is;
+      live = λ disposed. stay system (session_before run) batch (sym (fired_is run new batch act is last) ∙ fired)
+          (sym (ap (λ (s : Session). s.state) (ended run batch))
+          ∙ sym (ap (λ (r : RunSoFar). (session_before r).state) is) ∙ disposed);
+      follows = λ empty. last ∙ ap (λ (a : Act). Some a) (is_firing act fired);
+    }
