@@ -1,21 +1,22 @@
 -- One more turn of a replay.
 use Rattle.std.proofs.Common.{◌≡◌, ◌≢◌, ◌∙◌, Bool, true, false, List, [], ◌∷◌, ◌++◌, Some, None, refl, ap, sym, subst}
-use Rattle.std.proofs.Common.{append_assoc, append-nil}
+use Rattle.std.proofs.Common.{append_assoc, append-nil, arith, cond, inl, inr, suc, ◌+◌, ◌<◌, ◌⊎◌, ℕ}
 use denote.Enum.Bare.{sameb}
 use Rattle.std.specs.Option.{option_map_or}
 use Rattle.std.specs.declared.option.Option.{Option}
 use Rattle.session_states.specs.declared.item.Entry.{Entry}
+use Rattle.session_states.specs.declared.state.State.{State}
 use Rattle.session_states.specs.declared.state.State.TheVariants.{Disposed}
 use Rattle.session_states.specs.declared.turn.Act.{Act}
 use Rattle.session_states.specs.contracts.turn.Act.{the_type}
 use Rattle.session_states.specs.declared.turn.Act.TheVariants.{Idle as IdleAct, Halted, Disposed as DisposedAct}
 use Rattle.session_states.specs.declared.turn.Act.TheVariants.{Fired, StoppedQuiet, StoppedLimit, Resting}
 use Rattle.session_states.specs.Batches.{AreLawfulBehind, AreLawfulBatches, IsLawful, is_disposing}
-use Rattle.prd_relation.specs.Laws.{DisposesOnlyByDispose, FiringsStayLive}
+use Rattle.prd_relation.specs.Laws.{DisposesOnlyByDispose, FiringsStayLive, IsReason, StopsWhereItMust}
 use Rattle.prd_relation.specs.RuleSystem.{RuleSystem, system_of}
 use Rattle.prd_relation.specs.Runs.{fires, is_fired, session_at_end, IsReplay, IsReplayFrom}
-use Rattle.prd_relation.specs.Turns.{Session, first_session, outcome_of, session_after}
-use Rattle.rif_engine.specs.Replaying.{IsReplayed}
+use Rattle.prd_relation.specs.Turns.{Session, first_session, outcome_of, session_after, session_with}
+use Rattle.rif_engine.specs.Replaying.{IsReplayed, budget_of}
 use Rattle.rif_engine.specs.SoFar.{RunSoFar, MayTake, last_act_of, session_before}
 use Rattle.rif_engine.proofs.EngineLemmas.{end_more, last_done}
 
@@ -69,16 +70,19 @@ next_given only given left now run batch fires_is replayed =
       goes_on = goes given (batch ∷ left) left false now run batch replayed.goes_on fires_is (λ more rest. (refl, rest));
     }
 
+empty_lawful : IsLawful []
+empty_lawful = record { few = omega arith; ends_last = tt }
+
 -- an empty batch, after a firing
-pub next_empty : DisposesOnlyByDispose → IsLawful [] → (given left : List (List Entry)) (now : Bool) (run : RunSoFar)
+pub next_empty : DisposesOnlyByDispose → (given left : List (List Entry)) (now : Bool) (run : RunSoFar)
     → MayTake run [] → now ≡ fires (system_of run.doc) (session_before run) []
     → IsReplayed given left true run → IsReplayed given left now (with_turn run [])
-next_empty only lawful given left now run may fires_is replayed =
+next_empty only given left now run may fires_is replayed =
     let system = system_of run.doc in record {
       settled = refl;
       disposed = replayed.disposed;
       lawful = replayed.lawful;
-      tells = λ is. cc (only system (session_before run) [] lawful may.live
+      tells = λ is. cc (only system (session_before run) [] empty_lawful may.live
           (sym (ap (λ (s : Session). s.state) (ended run [])) ∙ is));
       goes_on = goes given left left true now run [] replayed.goes_on fires_is (λ more rest. (refl, rest));
     }
@@ -144,3 +148,39 @@ empty_may_follow stay run new batch act is last fired =
           ∙ sym (ap (λ (r : RunSoFar). (session_before r).state) is) ∙ disposed);
       follows = λ empty. last ∙ ap (λ (a : Act). Some a) (is_firing act fired);
     }
+
+-- ---- the budget
+
+lower : (system : RuleSystem) (s : Session) (after : State)
+    → IsReason system [] (session_with s []) after Fired → budget_of after < budget_of s.state
+lower system s after (none, left, inl firing) =
+    let before : budget_of s.state ≡ suc left = ap budget_of firing.0 in
+    let less : budget_of after ≡ left = ap budget_of firing.1 in omega (arith, before, less)
+lower system s after (none, left, inr until) =
+    let before : budget_of s.state ≡ suc left = ap budget_of until.0 in
+    let less : budget_of after ≡ left = ap budget_of until.1 in omega (arith, before, less)
+
+-- an empty batch that fires lowers the budget
+pub firing_lowers : StopsWhereItMust → (run new : RunSoFar) (now : Bool) → new ≡ with_turn run []
+    → now ≡ fires (system_of run.doc) (session_before run) []
+    → cond now (budget_of (session_before new).state + 1) 0 < budget_of (session_before run).state + 1
+firing_lowers stops run new now is fires_is = by_act now refl
+  where
+    system : RuleSystem
+    system = system_of run.doc
+    by_act : (b : Bool) → now ≡ b
+        → cond b (budget_of (session_before new).state + 1) 0 < budget_of (session_before run).state + 1
+    by_act false at = omega arith
+    by_act true at =
+        let fired = is_firing (outcome_of system (session_before run) []).act (sym fires_is ∙ at) in
+        let less = lower system (session_before run) _
+        (stops system (session_before run) [] Fired (ap (λ (a : Act). Some a) fired)) in
+        let same : (session_before new).state ≡ (session_after system (session_before run) []).state =
+        ap (λ (r : RunSoFar). (session_before r).state) is ∙ ap (λ (s : Session). s.state) (ended run []) in
+        let budget = ap budget_of same in omega (arith, less, budget)
+
+-- a turn was made where no act was owed
+pub turned : (run new : RunSoFar) (batch : List Entry) → run.owed ≡ None
+    → new ≡ record run { done = run.done ++ batch ∷ [] } → new ≡ with_turn run batch
+turned run new batch none is =
+    is ∙ ap (λ (o : Option (List Entry)). record { doc = run.doc; done = run.done ++ batch ∷ []; owed = o }) none

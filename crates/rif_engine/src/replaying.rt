@@ -8,7 +8,9 @@ ghost use Rattle.rif_engine.specs.Replaying.{IsReplayed};
 ghost use Rattle.rif_engine.specs.SoFar.{last_act_of, MayTake, session_before};
 
 use crate::engine::Engine;
-use prd_relation::laws::{a_firing_disposes_of_nothing, a_session_is_disposed_by_a_dispose};
+use prd_relation::laws::{
+    a_firing_disposes_of_nothing, a_session_is_disposed_by_a_dispose, turns_stop_where_they_must,
+};
 use rif_values::OutOfMemory;
 use safe_rules::SafeDoc;
 use session_states::{Act, Batch};
@@ -43,6 +45,7 @@ fn make_turns(alloc: Global, batch: Batch, engine: &mut Engine) -> Result<(), Ou
         → OnOk result (IsReplayed given left false engine.new) }
 {
     a_session_is_disposed_by_a_dispose();
+    turns_stop_where_they_must();
     let mut fired = make_turn(alloc, batch, engine)?;
     while fired {
         fired = make_turn(alloc, Batch::new(alloc), engine)?;
