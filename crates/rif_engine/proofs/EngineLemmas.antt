@@ -1,7 +1,7 @@
 -- The run that an engine's turns tell.
 use Rattle.std.proofs.Common.{◌≡◌, ◌∙◌, ◌-◌, suc, List, [], ◌∷◌, ◌++◌, Some, None, refl, ap, sym, subst, length}
-use Rattle.std.proofs.Common.{slice_get, slice_index_or, slice_set, append-nil, arith, IsTrue, ℕ}
-use Rattle.std.specs.Option.{is_some, option_and_then}
+use Rattle.std.proofs.Common.{slice_get, slice_index_or, slice_set, append-nil, arith, IsTrue, ℕ, Bool, true, false, not}
+use Rattle.std.specs.Option.{is_some, option_and_then, option_map_or}
 use Rattle.std.specs.declared.option.Option.{Option}
 use Rattle.safe_rules.specs.declared.safe_rule.SafeRule.{SafeRule}
 use Rattle.session_states.specs.declared.item.Entry.{Entry}
@@ -252,3 +252,42 @@ last_done run batch =
     ap last_act (append-nil all)
     ∙ last_settled (run_of system run.done) all (turn_of system (session_before run) batch)
     (turns_more system first_session run.done batch)
+
+-- ---- whether an act is owed
+
+act_there : (system : RuleSystem) (s : Session) (done : List (List Entry)) (turn : Turn)
+    → slice_get (turns_from system s done) (length (turns_from system s done) - 1) ≡ Some turn
+    → is_some turn.act ≡ true
+act_there system s [] turn at = absurd (cc at)
+act_there system s (batch ∷ []) turn at =
+    sym (ap (λ (o : Option Turn). option_map_or (λ (t : Turn). is_some t.act) o true) at)
+act_there system s (batch ∷ next ∷ done) turn at =
+    let later = turns_from system (session_after system s batch) (next ∷ done) in
+    let place : length (turn_of system s batch ∷ later) - 1 ≡ suc (length later - 1) = omega arith in
+    act_there system (session_after system s batch) (next ∷ done) turn
+    (sym (ap (slice_get (turn_of system s batch ∷ later)) place) ∙ at)
+
+owes_by : (system : RuleSystem) (done : List (List Entry)) (owed : Option (List Entry)) (turn : Turn)
+    → (let all = run_of system done ++ unsettled_turns owed in slice_get all (length all - 1) ≡ Some turn)
+    → is_some turn.act ≡ not (is_some owed)
+owes_by system done None turn at =
+    act_there system first_session done turn
+    (sym (ap (λ (ts : List Turn). slice_get ts (length ts - 1)) (append-nil (run_of system done))) ∙ at)
+owes_by system done (Some batch) turn at =
+    ap (λ (o : Option Turn). option_map_or (λ (t : Turn). is_some t.act) o false)
+    (sym at ∙ last_of (run_of system done) _ (run_of system done ++ unsettled_turns (Some batch)) refl)
+
+-- the last turn tells whether an act is owed
+pub owes_is : (run : RunSoFar) (doc : List SafeRule) (turns : List Turn) (standing : Standing) (turn : Turn)
+    → run_in doc turns ≡ run → Keeps doc turns standing → slice_get turns (length turns - 1) ≡ Some turn
+    → is_some turn.act ≡ not (is_some run.owed)
+owes_is run doc turns standing turn seen keeps at =
+    owes_by (system_of doc) (done_in turns) (owed_in turns) turn
+    (sym (ap (λ (ts : List Turn). slice_get ts (length ts - 1)) keeps.turns_are) ∙ at)
+    ∙ ap (λ (r : RunSoFar). not (is_some r.owed)) seen
+
+pub not_same : (a b c : Bool) → a ≡ not b → a ≡ not c → b ≡ c
+not_same a true true first second = refl
+not_same a true false first second = absurd (cc (sym first ∙ second))
+not_same a false true first second = absurd (cc (sym first ∙ second))
+not_same a false false first second = refl

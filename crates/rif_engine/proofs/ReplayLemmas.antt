@@ -168,6 +168,7 @@ firing_lowers stops run new now is fires_is = by_act now refl
   where
     system : RuleSystem
     system = system_of run.doc
+
     by_act : (b : Bool) → now ≡ b
         → cond b (budget_of (session_before new).state + 1) 0 < budget_of (session_before run).state + 1
     by_act false at = omega arith

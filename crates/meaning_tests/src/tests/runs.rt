@@ -1,5 +1,5 @@
 //! Whole runs, worked by hand.
-use prd_relation::replay_plain;
+use rif_engine::replay;
 use rif_script::{batches_of, read_job, write_run};
 use session_states::Turn;
 use std::alloc::Global;
@@ -96,12 +96,12 @@ fn a_run_has_its_text(rt: HostRuntime) -> Result<(), Fail> {
 fn runs(rt: &impl Abort, alloc: Global, job: &str, text: &str) -> Result<(), Fail> {
     let job = read_job(alloc, job.as_bytes())?;
     let (batches, left) = batches_of(alloc, &job)?;
-    let run = replay_plain(alloc, &job.doc, batches)?;
-    let turns = run.turns.as_slice();
+    let engine = replay(alloc, job.doc.copy(alloc)?, batches)?;
+    let facts = engine.facts().len();
     let mut shown = Vec::new(alloc);
-    write_run(alloc, &mut shown, &job, turns, left.as_slice(), run.facts)?;
+    write_run(alloc, &mut shown, &job, engine.turns(), left.as_slice(), facts)?;
     assert_eq!(rt; str::from_utf8(shown.as_slice())?, text);
-    are_copied(rt, turns)
+    are_copied(rt, engine.turns())
 }
 
 // A copy of each turn, and of each of its parts, is equal to it.
