@@ -18,7 +18,7 @@ use Rattle.prd_relation.specs.Choice.{chosen_instance}
 use Rattle.prd_relation.specs.History.{moments_of}
 use Rattle.prd_relation.specs.Laws.{FiresTheChosen, FiringsStayLive, IsFiring, IsReason, OthersKeepHistories}
 use Rattle.prd_relation.specs.Laws.{StopsWhereItMust}
-use Rattle.prd_relation.specs.Runs.{fires, is_fired}
+use Rattle.prd_relation.specs.Runs.{is_fired}
 use Rattle.prd_relation.specs.RuleSystem.{RuleSystem}
 use Rattle.prd_relation.specs.Turns.{Outcome, Session, ending_act, ending_item, outcome_after, outcome_in}
 use Rattle.prd_relation.specs.Turns.{session_with, state_with, with_budget}

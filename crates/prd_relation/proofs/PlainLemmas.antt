@@ -9,7 +9,7 @@ use Rattle.std.specs.declared.option.Option.{Option}
 use Rattle.std.proofs.lemmas.List.{reverse-append}
 use Rattle.std.proofs.lemmas.Option.{slice_get-get_or}
 use Rattle.rif_values.proofs.CallerLemmas.{total_instances, exact_instances}
-use Rattle.rif_sets.proofs.CallerLemmas.{equal_is, equal_itself}
+use Rattle.rif_sets.proofs.CallerLemmas.{equal_itself}
 use Rattle.rif_values.specs.declared.instance.Instance.{Instance}
 use Rattle.rif_values.specs.InstanceOrder.{instance_cmp}
 use Rattle.rif_values.specs.Sets.{has, IsSet}

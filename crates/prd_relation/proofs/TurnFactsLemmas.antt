@@ -1,5 +1,5 @@
 -- The facts that the turns of a run leave are those of its newest state.
-use Rattle.std.proofs.Common.{◌≡◌, ◌∙◌, ℕ, zero, suc, List, [], ◌∷◌, Some, None, fold, length, refl, sym, ap}
+use Rattle.std.proofs.Common.{◌≡◌, ◌∙◌, ℕ, zero, suc, List, [], ◌∷◌, Some, None, fold, refl, sym, ap}
 use Rattle.std.specs.declared.option.Option.{Option}
 use Rattle.rif_values.specs.declared.change.Change.{Change}
 use Rattle.rif_values.specs.declared.fact.Fact.{Fact}
@@ -16,7 +16,6 @@ use Rattle.session_states.specs.declared.item.Entry.{Entry}
 use Rattle.session_states.specs.declared.state.State.{State}
 use Rattle.session_states.specs.declared.state.State.TheVariants.{Idle, Firing, UntilHalt, Disposed}
 use Rattle.session_states.specs.declared.turn.Act.{Act}
-use Rattle.session_states.specs.declared.turn.Turn.{Turn}
 use Rattle.prd_relation.specs.FactsOfTurns.{facts_after_effect, facts_after_turn}
 use Rattle.prd_relation.specs.History.{Snapshot, IsHistory, newest_facts}
 use Rattle.prd_relation.specs.Laws.{TellTheirFacts}

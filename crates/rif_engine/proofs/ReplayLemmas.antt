@@ -1,17 +1,16 @@
 -- One more turn of a replay.
-use Rattle.std.proofs.Common.{◌≡◌, ◌≢◌, ◌∙◌, Bool, true, false, List, [], ◌∷◌, ◌++◌, Some, None, refl, ap, sym, subst}
-use Rattle.std.proofs.Common.{append_assoc, append-nil, arith, cond, inl, inr, suc, ◌+◌, ◌<◌, ◌⊎◌, ℕ}
+use Rattle.std.proofs.Common.{◌≡◌, ◌∙◌, Bool, true, false, List, [], ◌∷◌, ◌++◌, Some, None, refl, ap, sym, subst}
+use Rattle.std.proofs.Common.{append_assoc, append-nil, arith, cond, inl, inr, suc, ◌+◌, ◌<◌}
 use denote.Enum.Bare.{sameb}
 use Rattle.std.specs.Option.{option_map_or}
 use Rattle.std.specs.declared.option.Option.{Option}
 use Rattle.session_states.specs.declared.item.Entry.{Entry}
 use Rattle.session_states.specs.declared.state.State.{State}
-use Rattle.session_states.specs.declared.state.State.TheVariants.{Disposed}
 use Rattle.session_states.specs.declared.turn.Act.{Act}
 use Rattle.session_states.specs.contracts.turn.Act.{the_type}
 use Rattle.session_states.specs.declared.turn.Act.TheVariants.{Idle as IdleAct, Halted, Disposed as DisposedAct}
 use Rattle.session_states.specs.declared.turn.Act.TheVariants.{Fired, StoppedQuiet, StoppedLimit, Resting}
-use Rattle.session_states.specs.Batches.{AreLawfulBehind, AreLawfulBatches, IsLawful, is_disposing}
+use Rattle.session_states.specs.Batches.{AreLawfulBatches, IsLawful, is_disposing}
 use Rattle.prd_relation.specs.Laws.{DisposesOnlyByDispose, FiringsStayLive, IsReason, StopsWhereItMust}
 use Rattle.prd_relation.specs.RuleSystem.{RuleSystem, system_of}
 use Rattle.prd_relation.specs.Runs.{fires, is_fired, session_at_end, IsReplay, IsReplayFrom}

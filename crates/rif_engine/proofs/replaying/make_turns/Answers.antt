@@ -1,4 +1,4 @@
-use Rattle.std.proofs.Common.{◌≡◌, ◌∙◌, ◌++◌, ◌<◌, ◌+◌, ap, cond, sym, subst, true, false, Bool, List, [], ◌∷◌}
+use Rattle.std.proofs.Common.{◌≡◌, ◌∙◌, ◌++◌, ◌<◌, ◌+◌, ap, cond, sym, subst, Bool, List, [], ◌∷◌}
 use Rattle.session_states.specs.declared.item.Entry.{Entry}
 use Rattle.prd_relation.specs.RuleSystem.{system_of}
 use Rattle.prd_relation.specs.Runs.{fires}

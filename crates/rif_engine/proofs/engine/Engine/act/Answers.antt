@@ -1,9 +1,8 @@
 use Rattle.std.proofs.Common.{◌≡◌, ◌∙◌, ◌-◌, ap, sym, subst, length, slice_get, List, Option, Some}
-use Rattle.session_states.specs.declared.item.Entry.{Entry}
 use Rattle.session_states.specs.declared.turn.Act.{Act}
 use Rattle.session_states.specs.declared.turn.Turn.{Turn}
 use Rattle.prd_relation.specs.RuleSystem.{system_of}
-use Rattle.prd_relation.specs.Turns.{Session, ending_act, outcome_after, outcome_of, session_after}
+use Rattle.prd_relation.specs.Turns.{ending_act, outcome_after, outcome_of}
 use Rattle.prd_relation.specs.Runs.{run_of}
 use Rattle.rif_engine.specs.Keeping.{done_in, run_in, Keeps}
 use Rattle.rif_engine.specs.SoFar.{last_act_of, session_before, session_now, settled_run}
