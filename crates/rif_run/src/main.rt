@@ -1,49 +1,25 @@
 //! Checks or runs a rule job: reads it from standard input, and writes its document or its run to standard
-//! output.
+//! output. All of that is done by the top call, `rif_top::rif_run`.
 //!
-//! | File | Has | Its words |
-//! |---|---|---|
-//! | `command_line.rt` | the words that the program was started with | |
-//! | `top.rt` | `rif_run`, the call that does all that the program does | `specs/Top.antt` |
-//! | `command.rt` | `Command`, what the words tell the program to do | `specs/Commands.antt` |
-//! | `status.rt` | `Status`, how a run ends | `specs/Statuses.antt` |
-//! | `reading.rt` | the input, read to its end or to its limit | `specs/Reading.antt` |
-//! | `writing.rt` | a text, written whole | `specs/Writing.antt` |
-//! | `answer.rt` | `Answer`, what is written for an input | `specs/Answer.antt` |
-//! | `job.rt` | the text of a run from the bytes of a job | `specs/Runs.antt` |
-//! | `check.rt` | the canonical text of a document from the bytes of a job | `specs/Answer.antt` |
-//! | `kept.rt` | `Kept`, a source that keeps what was taken of it | |
-//! | `laws.rt` | that an input and a command have one answer | `specs/Answer.antt` |
-//! | | that a text fixes its run | `specs/TextLaws.antt` |
-//! | | that a run keeps its clients' items | `specs/ClientLaws.antt` |
-//! | `note.rt` | what is said of a refusal in words | |
+//! | File | Has |
+//! |---|---|
+//! | `command_line.rt` | the words that the program was started with |
+//! | `note.rt` | what people are told on standard error: why there is no answer, or why an input is refused |
 //!
-//! Begin at `top::rif_run`.
+//! Begin at `main`.
 #![tactic(auto)]
 
-mod answer;
-mod check;
-mod command;
 mod command_line;
-mod job;
-mod kept;
-pub mod laws;
 mod note;
-mod reading;
-mod status;
 #[cfg(test)]
 mod tests;
-mod top;
-mod writing;
 
 use command_line::words;
-use kept::Kept;
-use note::note_on;
+use note::{message_of, note_on};
 use rif_script::{StdSink, StdSource};
-use status::Status;
+use rif_top::{Kept, Status, rif_run};
 use std::alloc::Global;
 use std::process::ExitCode;
-use top::rif_run;
 
 fn main(rt: HostRuntime) -> ExitCode {
     let alloc = rt.alloc();
@@ -53,7 +29,7 @@ fn main(rt: HostRuntime) -> ExitCode {
         Ok(words) => rif_run(alloc, &words, &mut source, &mut sink),
         Err(_) => Status::OutOfMemory,
     };
-    if let Some(message) = status.message() {
+    if let Some(message) = message_of(status) {
         let _ = eprintln!(rt; "{message}");
     }
     if status == Status::Refused

@@ -1,10 +1,32 @@
+ghost use Rattle.std.specs.Prelude.{◌↔◌, IsNone};
+ghost use Rattle.rif_top.specs.Statuses.{IsAnswered};
+
 use prd_explain::{Explanation, explain, explain_line, explain_rule, lines_of};
 use prd_reader::read_doc;
 use rif_lex::tokens;
 use rif_refusals::{Fault, Refusal};
 use rif_script::{doc_part, read_job};
+use rif_top::Status;
 use rif_values::OutOfMemory;
 use std::alloc::Global;
+
+/// How the program is called.
+const USAGE: &str = "usage: hauskimu run [FILE]      runs the job in FILE, or on standard input, and prints its run
+       hauskimu check [FILE]    reads it without running it, and prints its document in canonical text
+docs/FORMATS.md describes jobs, runs, refusals and statuses";
+
+/// What people are told of how a run ended, without a line feed at its end. A run that wrote its answer has none.
+pub fn message_of(status: Status) -> Option<&'static str>
+    ensures { IsNone result ↔ IsAnswered status }
+{
+    match status {
+        Status::Done | Status::Refused => None,
+        Status::Usage => Some(USAGE),
+        Status::ReadFault => Some("hauskimu: the input could not be read"),
+        Status::WriteFault => Some("hauskimu: the output could not be written"),
+        Status::OutOfMemory => Some("hauskimu: out of memory"),
+    }
+}
 
 /// Lines on why a run of an input, or a check of it, was refused: the place and what is wrong there, the line of the
 /// input, and what else has to do with it. They end without a line feed, and an input that has no refusal has none.

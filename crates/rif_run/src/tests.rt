@@ -4,9 +4,8 @@ ghost use Rattle.std.specs.Io.{ReadsAtMost, WritesAtMost};
 ghost use Rattle.std.specs.Io.KnownBytes.{ReadConsumes, WriteAppends};
 ghost use Rattle.rif_script.specs.Faults.{CountsFaults};
 
-use crate::status::Status;
-use crate::top::rif_run;
 use rif_script::{Failed, MemSink, MemSource, Sink, Source};
+use rif_top::{Status, rif_run};
 use rif_values::{OutOfMemory, Text};
 use std::alloc::Global;
 use std::process::Abort;

@@ -1,5 +1,0 @@
-use Rattle.rif_run.proofs.AnswerLemmas.{one_answer}
-use Rattle.rif_run.proofs.laws.one_answer.Goals as goal
-
-pub returns : goal.returns
-returns c = one_answer c.one_outcome.ensures c.one_replay.ensures
