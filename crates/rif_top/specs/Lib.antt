@@ -1,5 +1,6 @@
 pub mod Answer
 pub mod ClientLaws
+pub mod CommandLine
 pub mod Commands
 pub mod Reading
 pub mod Runs

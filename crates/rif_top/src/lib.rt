@@ -5,6 +5,7 @@
 //! |---|---|---|
 //! | `top.rt` | `rif_run`, the call that does all that the program does | `specs/Top.antt` |
 //! | `command.rt` | `Command`, what the words tell the program to do | `specs/Commands.antt` |
+//! | `words.rt` | the words, read into a command | `specs/Commands.antt` |
 //! | `status.rt` | `Status`, how a run ends | `specs/Statuses.antt` |
 //! | `reading.rt` | the input, read to its end or to its limit | `specs/Reading.antt` |
 //! | `writing.rt` | a text, written whole | `specs/Writing.antt` |
@@ -28,6 +29,7 @@ pub mod laws;
 mod reading;
 mod status;
 mod top;
+mod words;
 mod writing;
 
 pub use kept::Kept;

@@ -4,12 +4,12 @@ ghost use Rattle.rif_top.specs.Statuses.{IsAnswered, IsDoneOrNoMemory, IsRefused
 ghost use Rattle.rif_top.specs.Top.{AreRefused, AreTaken, WritesAnswer, WritesFrontOfAnswer};
 
 use crate::answer::answer_to;
-use crate::command::command_of;
 use crate::reading::{MOST_BYTES_READ, ReadError, read_up_to};
 use crate::status::Status;
+use crate::words::read_command;
 use crate::writing::write_text;
 use rif_script::{Sink, Source};
-use rif_values::Text;
+use rif_values::{OutOfMemory, Text};
 use std::alloc::Global;
 
 /// Does what the words say with a job from `src`: for `run` it writes the job's run to `out`, for `check`
@@ -54,8 +54,10 @@ pub fn rif_run<S: Source, K: Sink>(
     ensures refused { AreRefused words.now.items (S.left src.old) → S.faults src.new ≡ S.faults src.old
         → K.faults out.new ≡ K.faults out.old → IsRefusedOrNoMemory result }
 {
-    let Some(command) = command_of(words) else {
-        return Status::Usage;
+    let command = match read_command(alloc, words.as_slice()) {
+        Ok(Some(command)) => command,
+        Ok(None) => return Status::Usage,
+        Err(OutOfMemory) => return Status::OutOfMemory,
     };
     let input = match read_up_to(alloc, src, MOST_BYTES_READ) {
         Ok(input) => input,
