@@ -1,9 +1,10 @@
-ghost use Rattle.std.specs.Prelude.{◌≡◌, ◌↔◌, IfErr, IfOk, IsTrue, Some};
+ghost use Rattle.std.specs.Prelude.{◌≡◌, ◌∷◌, [], IfErr, IfOk, map};
 ghost use Rattle.clap.specs.Words.{app_of, kind_of};
 ghost use Rattle.rif_top.specs.CommandLine.{command_line};
 ghost use Rattle.rif_top.specs.Commands.{AreAccepted, command_named, command_of};
 
 use crate::command::Command;
+use clap::Error;
 use clap::error::ErrorKind;
 use rif_values::{OutOfMemory, Text};
 use std::alloc::{AllocError, Global};
@@ -11,46 +12,44 @@ use std::alloc::{AllocError, Global};
 /// The command that the words behind the program's name are, or none.
 ///
 /// `clap` reads them. Words that are no command are told apart before it is asked: it would take some of them, as
-/// `run --`, and refusing others would cost it memory. So its parse fails only for want of memory.
+/// `run --`, and to refuse the others would cost it memory. So its parse fails only for want of memory.
 pub fn read_command(alloc: Global, words: &[Text]) -> Result<Option<Command>, OutOfMemory>
     ensures ok { IfOk result (λ command. command ≡ command_of words.now) }
     ensures err { IfErr result (λ _. AreAccepted words.now) }
 {
     match words {
-        [word] => {
-            let word = word.as_str();
-            if is_command(word) {
-                parsed(alloc, word)
-            } else {
-                Ok(None)
-            }
-        }
+        [word] => read_word(alloc, word.as_str()),
         _ => Ok(None),
     }
 }
 
-fn is_command(word: &str) -> bool
-    ensures { IsTrue result ↔ ((command : Command) × (command_named word.now ≡ Some command)) }
+fn read_word(alloc: Global, word: &str) -> Result<Option<Command>, OutOfMemory>
+    ensures ok { IfOk result (λ command. command ≡ command_named word.now) }
+    ensures err { IfErr result (λ _. AreAccepted (word.now ∷ [])) }
 {
-    word == "check" || word == "run"
+    if named(word).is_none() {
+        return Ok(None);
+    }
+    let words = [word];
+    match parsed(alloc, words.as_slice()) {
+        Ok(command) => Ok(command),
+        Err(error) => match error.kind() {
+            ErrorKind::OutOfMemory => Err(OutOfMemory),
+            _ => unreachable!(),
+        },
+    }
 }
 
-// What `clap` makes of a word that is a command.
-fn parsed(alloc: Global, word: &str) -> Result<Option<Command>, OutOfMemory>
-    requires { (command : Command) × (command_named word.now ≡ Some command) }
-    ensures { IfOk result (λ command. command ≡ command_named word.now) }
+// What `clap` makes of words that are a command.
+fn parsed<'a>(alloc: Global, words: &'a [&'a str]) -> Result<Option<Command>, Error>
+    requires { AreAccepted (map (λ word. word.now) words.now) }
+    ensures ok { IfOk result (λ command. command ≡ command_of (map (λ word. word.now) words.entry.now)) }
+    ensures err { IfErr result (λ error. kind_of error ≡ ErrorKind.OutOfMemory) }
 {
-    let Ok(commands) = commands(alloc) else {
-        return Err(OutOfMemory);
-    };
-    let words = [word];
-    let Ok(matches) = commands.try_get_matches_from(words.as_slice()) else {
-        return Err(OutOfMemory);
-    };
+    let matches = commands(alloc)?.try_get_matches_from(words)?;
     Ok(match matches.subcommand_name() {
-        Some("check") => Some(Command::Check),
-        Some("run") => Some(Command::Run),
-        _ => None,
+        Some(name) => named(name),
+        None => None,
     })
 }
 
@@ -66,4 +65,14 @@ fn commands<'a>(alloc: Global) -> Result<clap::Command<'a>, AllocError>
         .subcommand_required(true)
         .subcommand(clap::Command::new(alloc, "check"))?
         .subcommand(clap::Command::new(alloc, "run"))
+}
+
+fn named(word: &str) -> Option<Command>
+    ensures { result ≡ command_named word.now }
+{
+    match word {
+        "check" => Some(Command::Check),
+        "run" => Some(Command::Run),
+        _ => None,
+    }
 }

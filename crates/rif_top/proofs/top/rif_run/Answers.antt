@@ -4,7 +4,7 @@ use Rattle.rif_top.proofs.top.rif_run.Goals as goal
 pub returns-in-Ok-write_text-clause-complete : goal.returns-in-Ok-write_text-clause-complete
 returns-in-Ok-write_text-clause-complete over c = λ taken reads writes.
     is_done _ _ _ _ _ (record {
-      command = c.in-Some.command;
+      command = c.in-Ok-Some.command;
       told = c.in-Some.ensures;
       input = c.in-Ok.input.items;
       read = c.in-Ok.ensures.read;
@@ -14,7 +14,7 @@ returns-in-Ok-write_text-clause-complete over c = λ taken reads writes.
 pub returns-in-Ok-write_text-clause-refused : goal.returns-in-Ok-write_text-clause-refused
 returns-in-Ok-write_text-clause-refused over c = λ refused reads writes.
     is_refused _ _ _ _ _ (record {
-      command = c.in-Some.command;
+      command = c.in-Ok-Some.command;
       told = c.in-Some.ensures;
       input = c.in-Ok.input.items;
       read = c.in-Ok.ensures.read;
