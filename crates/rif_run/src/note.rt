@@ -11,7 +11,8 @@ use rif_values::OutOfMemory;
 use std::alloc::Global;
 
 /// How the program is called.
-const USAGE: &str = "usage: hauskimu run [FILE]      runs the job in FILE, or else on standard input, and prints its run
+const USAGE: &str =
+    "usage: hauskimu run [FILE]      runs the job in FILE, or else on standard input, and prints its run
        hauskimu check [FILE]    reads it without running it, and prints its document in canonical text
 docs/FORMATS.md describes jobs, runs, refusals and statuses";
 

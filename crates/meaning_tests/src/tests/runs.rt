@@ -99,7 +99,14 @@ fn runs(rt: &impl Abort, alloc: Global, job: &str, text: &str) -> Result<(), Fai
     let engine = replay(alloc, job.doc.copy(alloc)?, batches)?;
     let facts = engine.facts().len();
     let mut shown = Vec::new(alloc);
-    write_run(alloc, &mut shown, &job, engine.turns(), left.as_slice(), facts)?;
+    write_run(
+        alloc,
+        &mut shown,
+        &job,
+        engine.turns(),
+        left.as_slice(),
+        facts,
+    )?;
     assert_eq!(rt; str::from_utf8(shown.as_slice())?, text);
     are_copied(rt, engine.turns())
 }
