@@ -14,7 +14,7 @@ returns c =
     let job = c.args.job.now in
     let replay = c.in_ok-engine.ensures in
     let all = replay.0 in
-    let ran = engine_ran c.turns_tell_their_facts.ensures job c.in_ok-copy.copy c.in_ok-engine.engine all
+    let ran = engine_ran c.turns_tell_their_facts.ensures job c.in_ok-copy.field-0 c.in_ok-engine.engine all
     c.in_ok-copy.ensures replay.2 in
     run_is job c.write_run.new.out.items c.in_ok-batches.batches.items all (run_of (system_of job.doc) all)
     c.in_ok-batches.left.items c.len.result c.cut_is_lawful.ensures c.replays_are_lawful.ensures

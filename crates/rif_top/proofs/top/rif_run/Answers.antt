@@ -1,3 +1,5 @@
+use Rattle.std.proofs.Common.{◌∙◌, ap, sym}
+use Rattle.rif_top.specs.Commands.{command_of}
 use Rattle.rif_top.proofs.CompletenessLemmas.{is_done, is_refused}
 use Rattle.rif_top.proofs.top.rif_run.Goals as goal
 
@@ -5,18 +7,18 @@ pub returns-in-Ok-write_text-clause-complete : goal.returns-in-Ok-write_text-cla
 returns-in-Ok-write_text-clause-complete over c = λ taken reads writes.
     is_done _ _ _ _ _ (record {
       command = c.in-Ok-Some.command;
-      told = c.in-Some.ensures;
+      told = sym (c.in-Ok-Some.ensures.ok ∙ ap command_of c.as_slice.ensures.value);
       input = c.in-Ok.input.items;
       read = c.in-Ok.ensures.read;
-      answers = rw c.as_slice.ensures.value at c.in-Ok-answer_to.ensures;
+      answers = rw c.as_slice-2.ensures.value at c.in-Ok-answer_to.ensures;
     }) taken
 
 pub returns-in-Ok-write_text-clause-refused : goal.returns-in-Ok-write_text-clause-refused
 returns-in-Ok-write_text-clause-refused over c = λ refused reads writes.
     is_refused _ _ _ _ _ (record {
       command = c.in-Ok-Some.command;
-      told = c.in-Some.ensures;
+      told = sym (c.in-Ok-Some.ensures.ok ∙ ap command_of c.as_slice.ensures.value);
       input = c.in-Ok.input.items;
       read = c.in-Ok.ensures.read;
-      answers = rw c.as_slice.ensures.value at c.in-Ok-answer_to.ensures;
+      answers = rw c.as_slice-2.ensures.value at c.in-Ok-answer_to.ensures;
     }) refused
