@@ -38,7 +38,14 @@ fn a_refused_call_is_made_again(rt: HostRuntime) -> Result<(), Fail> {
     }
     let facts = engine.facts().len();
     let mut shown = Vec::new(alloc);
-    write_run(alloc, &mut shown, &job, engine.turns(), left.as_slice(), facts)?;
+    write_run(
+        alloc,
+        &mut shown,
+        &job,
+        engine.turns(),
+        left.as_slice(),
+        facts,
+    )?;
     assert_eq!(rt; str::from_utf8(shown.as_slice())?, TURNS);
     Ok(())
 }

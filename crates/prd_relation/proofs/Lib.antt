@@ -1,9 +1,9 @@
 pub mod ActLemmas
 pub mod AllowedLemmas
 pub mod BestLemmas
-pub mod ChoiceLemmas
 pub mod ChosenLemmas
 pub mod HistoryLemmas
+pub mod PassLemmas
 pub mod PickLemmas
 pub mod PlainLemmas
 pub mod ReplayLawLemmas

@@ -1,79 +1,79 @@
-//! The choice of the instance that is picked, by the definition's steps. Each step goes over the instances twice: to
-//! find the best that one of them has, and to keep those that have it.
-ghost use Rattle.std.specs.Prelude.{◌≡◌, ◌++◌, ◌∷◌, [], map, IfOk, OnOk, if◌then◌else◌};
-ghost use Rattle.prd_relation.specs.Choice.{best_by, chosen_instance, unrefracted_instances};
+//! The choice of the instance that is picked: one pass over the newest conflict set, with the best instance so far.
+ghost use Rattle.std.specs.Prelude.{◌≡◌, IfOk, IfSome, IfNone, None, slice_get};
+ghost use Rattle.prd_relation.specs.Choice.{chosen_instance};
 ghost use Rattle.prd_relation.specs.History.{newest_conflict_set};
-ghost use Rattle.prd_relation.specs.Layout.{candidate_of, is_above, is_below, is_first_or_above, is_first_or_below, is_outranked};
-ghost use Rattle.prd_relation.specs.Layout.{is_staler};
-ghost use Rattle.prd_relation.specs.declared.candidate.Candidate.{Candidate};
+ghost use Rattle.prd_relation.specs.Layout.{better_of, is_better};
 ghost use Rattle.prd_relation.specs.RuleSystem.{system_of};
-ghost use Rattle.std.specs.List.{list_any};
 
-use crate::candidate::Candidate;
 use crate::mark::Mark;
 use crate::plain::Plain;
 use rif_values::{Instance, OutOfMemory, nth};
 use safe_rules::SafeDoc;
-use std::alloc::Global;
+
+/// What the choice asks of an instance: its rule's priority, and its age in states.
+///
+/// Source: RIF-PRD, "Conflict resolution", rif:forwardChaining.
+#[derive(Clone, Copy, Debug)]
+pub struct Rank {
+    pub priority: i32,
+    pub age: u64,
+}
+
+/// An instance that isn't refracted: its place in the newest conflict set, from 0, and its rank.
+#[derive(Clone, Copy, Debug)]
+pub struct Best {
+    pub place: usize,
+    pub rank: Rank,
+}
 
 /// The instance to be picked next, or None where each instance of the newest conflict set is refracted.
 ///
-/// It copies the instances that aren't refracted, and its time grows as their number and that of the others.
+/// It copies that instance alone, and its time grows as the number of instances.
 ///
 /// Source: RIF-PRD, "Conflict resolution", rif:forwardChaining; the tie break is our own
 /// (docs/PROFILE.md, "Tie break").
-pub fn choose_plain(
-    alloc: Global,
-    doc: &SafeDoc,
-    history: &Plain,
-) -> Result<Option<Instance>, OutOfMemory>
+pub fn choose_plain(doc: &SafeDoc, history: &Plain) -> Result<Option<Instance>, OutOfMemory>
     ensures { IfOk result (λ chosen. chosen ≡ chosen_instance (system_of doc.now) history.now) }
 {
-    let unrefracted = unrefracted_candidates(alloc, doc, history)?;
-    let highest = highest_candidates(alloc, unrefracted.as_slice())?;
-    let youngest = youngest_candidates(alloc, highest.as_slice())?;
-    match youngest.as_slice().first() {
-        Some(first) => Ok(Some(first.instance.copy()?)),
+    match best_place(doc, history) {
+        Some(place) => match history.conflict_set().get(place) {
+            Some(chosen) => Ok(Some(chosen.copy()?)),
+            None => Ok(None),
+        },
         None => Ok(None),
     }
 }
 
-fn unrefracted_candidates(
-    alloc: Global,
-    doc: &SafeDoc,
-    history: &Plain,
-) -> Result<Vec<Candidate>, OutOfMemory>
-    ensures { IfOk result (λ all. all.items ≡ map (candidate_of (system_of doc.now) history.now)
-        (unrefracted_instances history.now (newest_conflict_set history.now))) }
+// The place of that instance in the newest conflict set, where there is one.
+fn best_place(doc: &SafeDoc, history: &Plain) -> Option<usize>
+    ensures some { IfSome result (λ place. slice_get (newest_conflict_set history.now) place
+        ≡ chosen_instance (system_of doc.now) history.now) }
+    ensures none { IfNone result (chosen_instance (system_of doc.now) history.now ≡ None) }
 {
     let instances = history.conflict_set();
     let marks = history.marks();
-    let mut all = Vec::new(alloc);
+    let mut best = None;
     for (place, instance) in instances.iter().enumerate() {
-        push_unrefracted(&mut all, doc, instance, marks[place])?;
+        let mark = marks[place];
+        if !mark.refracted {
+            let rank = rank_at(doc, instance, mark);
+            best = Some(better_of(best, Best { place, rank }));
+        }
     }
-    Ok(all)
+    match best {
+        Some(best) => Some(best.place),
+        None => None,
+    }
 }
 
-// Puts the instance at the end, unless it is refracted.
-fn push_unrefracted(
-    all: &mut Vec<Candidate>,
-    doc: &SafeDoc,
-    instance: &Instance,
-    mark: Mark,
-) -> Result<(), OutOfMemory>
-    ensures { OnOk result (all.new.items ≡ all.old.items ++ (if mark.refracted then [] else
-        record { instance = instance.now; priority = (system_of doc.now).priority instance.now.rule; age = mark.age }
-        ∷ [])) }
+// The rank of an instance that has this mark.
+fn rank_at(doc: &SafeDoc, instance: &Instance, mark: Mark) -> Rank
+    ensures { result ≡ record { priority = (system_of doc.now).priority instance.now.rule; age = mark.age } }
 {
-    if !mark.refracted {
-        all.push(Candidate {
-            instance: instance.copy()?,
-            priority: priority(doc, instance.rule),
-            age: mark.age,
-        })?;
+    Rank {
+        priority: priority(doc, instance.rule),
+        age: mark.age,
     }
-    Ok(())
 }
 
 /// The priority of the rule of this number, counted from 1, in constant time, and 0 where there is no such
@@ -89,100 +89,21 @@ pub fn priority(doc: &SafeDoc, number: u32) -> i32
     }
 }
 
-// Those of the greatest priority.
-fn highest_candidates(
-    alloc: Global,
-    candidates: &[Candidate],
-) -> Result<Vec<Candidate>, OutOfMemory>
-    ensures { IfOk result (λ best. best.items ≡ best_by is_outranked candidates.now) }
+// The best one so far, or the next one, where that is better. So the first of equals stays.
+fn better_of(best: Option<Best>, next: Best) -> Best
+    ensures { result ≡ better_of best next }
 {
-    let greatest = greatest_priority(candidates);
-    let mut best = Vec::new(alloc);
-    for candidate in candidates {
-        if !is_below(greatest, candidate) {
-            best.push(candidate.copy()?)?;
-        }
-    }
-    Ok(best)
-}
-
-// The greatest of their priorities, where there is one.
-fn greatest_priority(candidates: &[Candidate]) -> Option<i32>
-    ensures { (c : Candidate) → is_below result c ≡ list_any (is_outranked c) candidates.now }
-{
-    let mut greatest = None;
-    for candidate in candidates {
-        if is_first_or_above(greatest, candidate.priority) {
-            greatest = Some(candidate.priority);
-        }
-    }
-    greatest
-}
-
-fn is_first_or_above(greatest: Option<i32>, priority: i32) -> bool
-    ensures { result ≡ is_first_or_above greatest priority }
-{
-    match greatest {
-        Some(greatest) => greatest.cmp(&priority).is_lt(),
-        None => true,
+    match best {
+        Some(best) if !is_better(next.rank, best.rank) => best,
+        _ => next,
     }
 }
 
-// Whether its priority is below the greatest, where there is one.
-fn is_below(greatest: Option<i32>, candidate: &Candidate) -> bool
-    ensures { result ≡ is_below greatest candidate.now }
+// Whether an instance of this rank is picked before one of the other, whatever their order.
+fn is_better(rank: Rank, other: Rank) -> bool
+    ensures { result ≡ is_better rank other }
 {
-    match greatest {
-        Some(greatest) => candidate.priority.cmp(&greatest).is_lt(),
-        None => false,
-    }
-}
-
-// Those of the least age.
-fn youngest_candidates(
-    alloc: Global,
-    candidates: &[Candidate],
-) -> Result<Vec<Candidate>, OutOfMemory>
-    ensures { IfOk result (λ best. best.items ≡ best_by is_staler candidates.now) }
-{
-    let least = least_age(candidates);
-    let mut best = Vec::new(alloc);
-    for candidate in candidates {
-        if !is_above(least, candidate) {
-            best.push(candidate.copy()?)?;
-        }
-    }
-    Ok(best)
-}
-
-// The least of their ages, where there is one.
-fn least_age(candidates: &[Candidate]) -> Option<u64>
-    ensures { (c : Candidate) → is_above result c ≡ list_any (is_staler c) candidates.now }
-{
-    let mut least = None;
-    for candidate in candidates {
-        if is_first_or_below(least, candidate.age) {
-            least = Some(candidate.age);
-        }
-    }
-    least
-}
-
-fn is_first_or_below(least: Option<u64>, age: u64) -> bool
-    ensures { result ≡ is_first_or_below least age }
-{
-    match least {
-        Some(least) => age < least,
-        None => true,
-    }
-}
-
-// Whether its age is above the least, where there is one.
-fn is_above(least: Option<u64>, candidate: &Candidate) -> bool
-    ensures { result ≡ is_above least candidate.now }
-{
-    match least {
-        Some(least) => least < candidate.age,
-        None => false,
-    }
+    let by_priority = rank.priority.cmp(&other.priority);
+    let by_age = other.age.cmp(&rank.age);
+    by_priority.then(by_age).is_gt()
 }

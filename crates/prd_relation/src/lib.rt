@@ -7,7 +7,7 @@
 //! | File | Has | Its words |
 //! |---|---|---|
 //! | `moment.rt`, `mark.rt`, `plain.rt` | `Plain`, the history as its conflict sets | `specs/History.antt` |
-//! | `candidate.rt`, `choosing.rt` | `choose_plain`: a pick is made here | `specs/Choice.antt` |
+//! | `choosing.rt` | `choose_plain`: a pick is made here | `specs/Choice.antt` |
 //! | | turns, and runs of some batches | `specs/Turns.antt`, `specs/Runs.antt` |
 //! | | rule systems, and the facts that turns leave | `specs/RuleSystem.antt`, `specs/FactsOfTurns.antt` |
 //! | `laws.rt` | laws of the definitions | `specs/Laws.antt` |
@@ -15,14 +15,12 @@
 //! Begin at `specs/Runs.antt`, and at `choose_plain`.
 #![tactic(auto)]
 
-mod candidate;
 mod choosing;
 pub mod laws;
 mod mark;
 mod moment;
 mod plain;
 
-pub use candidate::Candidate;
 pub use choosing::{choose_plain, priority};
 pub use mark::Mark;
 pub use moment::Moment;

@@ -74,7 +74,7 @@ impl Listing {
         ensures ready { OnOk result (self.new.unlisted ≡ None) }
     {
         self.list_newest(alloc, doc, facts)?;
-        choose_plain(alloc, doc, &self.listed)
+        choose_plain(doc, &self.listed)
     }
 
     /// Notes one more state, and the instance whose firing led to it, where one did. It takes no memory. The state

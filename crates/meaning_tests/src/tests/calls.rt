@@ -1,7 +1,7 @@
 //! Each call on small values that were worked by hand.
 use crate::reading::{changes_of, doc_of, facts_of};
 use crate::showing::{delta_text, facts_text, history_text, show_facts, show_row};
-use prd_relation::{Candidate, Plain, choose_plain};
+use prd_relation::{Plain, choose_plain};
 use rif_facts::{Facts, Key};
 use rif_match::{list_instances, matches};
 use rif_refusals::Fault;
@@ -221,28 +221,11 @@ fn a_history_marks_its_instances_and_one_is_chosen(rt: HostRuntime) -> Result<()
     let facts = facts_of(alloc, STATE)?;
     let mut history = Plain::start(alloc, &doc)?;
     for wanted in HISTORY {
-        let pick = choose_plain(alloc, &doc, &history)?;
+        let pick = choose_plain(&doc, &history)?;
         history.push(alloc, &doc, &facts, pick)?;
         let shown = history_text(alloc, &history)?;
         assert_eq!(rt; str::from_utf8(shown.as_slice())?, *wanted);
     }
-    assert!(rt; choose_plain(alloc, &doc, &history)?.is_none());
-    Ok(())
-}
-
-#[test]
-fn a_candidate_is_copied(rt: HostRuntime) -> Result<(), Fail> {
-    let alloc = rt.alloc();
-    let facts = facts_of(alloc, STATE)?;
-    for instance in list_instances(alloc, &doc_of(alloc, RULES)?, &facts)?.into_vec() {
-        let candidate = Candidate {
-            instance,
-            priority: -1,
-            age: 2,
-        };
-        let copy = candidate.copy()?;
-        assert_eq!(rt; copy.instance, candidate.instance);
-        assert_eq!(rt; (copy.priority, copy.age), (-1, 2));
-    }
+    assert!(rt; choose_plain(&doc, &history)?.is_none());
     Ok(())
 }
