@@ -1,6 +1,12 @@
-//! The engine where memory is short: a call that was refused is made again, and the turns are those of the job.
-//! It is a crate of its own, so that it can be run once for each allocation that fails, in a second.
+//! Tests of the engine: whole runs, and a run whose calls are made again where memory is short.
+//!
+//! | File | Has |
+//! |---|---|
+//! | `runs.rt` | whole runs |
+//! | `tests.rt` | a call that was refused is made again, and the turns are those of the job |
 #![tactic(auto)]
 
+#[cfg(test)]
+mod runs;
 #[cfg(test)]
 mod tests;

@@ -1,3 +1,2 @@
-//! Calls with small values, and whole runs.
+//! Calls with small values.
 mod calls;
-mod runs;

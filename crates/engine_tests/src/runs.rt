@@ -1,5 +1,6 @@
 //! Whole runs, worked by hand.
 use rif_engine::replay;
+use rif_script::laws::cut_is_lawful;
 use rif_script::{batches_of, read_job, write_run};
 use session_states::Turn;
 use std::alloc::Global;
@@ -92,8 +93,9 @@ fn a_run_has_its_text(rt: HostRuntime) -> Result<(), Fail> {
     Ok(())
 }
 
-// Asserts that the run of a job has this text.
+// Asserts that the run of a job has this text. That its batches may be replayed is a law.
 fn runs(rt: &impl Abort, alloc: Global, job: &str, text: &str) -> Result<(), Fail> {
+    cut_is_lawful();
     let job = read_job(alloc, job.as_bytes())?;
     let (batches, left) = batches_of(alloc, &job)?;
     let engine = replay(alloc, job.doc.copy(alloc)?, batches)?;
