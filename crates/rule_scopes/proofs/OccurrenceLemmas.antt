@@ -1,11 +1,13 @@
--- Occurrences and mentions at each form of formulas, and the first that is told of.
-use Rattle.std.proofs.Common.{◌≡◌, ℕ, Bool, true, false, cond, List, [], ◌∷◌, ◌++◌, Some}
-use Rattle.std.proofs.Common.{length, drop, ◌≤◌, ap, ap₂, ◌∙◌, sym, refl, append_assoc}
+-- Occurrences at each form of formulas, and what is found behind some.
+use Rattle.std.proofs.Common.{◌≡◌, ℕ, Bool, true, false, cond, List, [], ◌∷◌, ◌++◌, Some, None}
+use Rattle.std.proofs.Common.{ap, ap₂, ◌∙◌, sym, refl, ◌+◌, ◌<◌, length, get_or, take, drop}
+use Rattle.std.proofs.Common.{append_assoc}
 use Rattle.std.specs.declared.option.Option.{Option}
-use Rattle.std.specs.Option.{option_map}
+use Rattle.std.specs.Option.{option_map, option_or}
 use Rattle.std.specs.List.{flat_map, find}
-use Rattle.std.proofs.lemmas.List.{map-append, drop_all}
+use Rattle.std.proofs.lemmas.List.{append-nil, take_more, drop_more}
 use Rattle.std.proofs.lemmas.List.Folds.{flat_map-map}
+use Rattle.std.proofs.lemmas.Grind.{flat_map-append}
 use Rattle.rif_tree.specs.declared.tree.Formula.{Formula}
 use Rattle.rif_tree.specs.declared.tree.Formula.TheOpen.{And as AndLayer, Or as OrLayer, Exists as ExistsLayer}
 use Rattle.rif_tree.specs.declared.tree.Formula.TheVariants.{And, Or, Exists, rolls-And, rolls-Or, rolls-Exists}
@@ -13,11 +15,12 @@ use Rattle.rif_tree.specs.declared.tree.Formula.TheFolds.{fold-Formula, fold-rol
 use Rattle.rif_tree.specs.declared.tree.Level.{Level}
 use Rattle.rif_tree.specs.declared.rule.Action.{Action}
 use Rattle.rif_tree.specs.declared.rule.Decl.{Decl}
-use Rattle.rule_scopes.specs.declared.mention.Mention.{Mention}
-use Rattle.safe_rules.specs.BlockScope.{action_variables}
-use Rattle.rule_scopes.specs.Mentions.{mention_of, mentions_of, mentions_in, used}
+use Rattle.safe_rules.specs.BlockScope.{decl_variable}
+use Rattle.rule_scopes.specs.declared.misplaced.Misplaced.{Misplaced}
+use Rattle.rule_scopes.specs.Misplaced.{told, use_of, seen, seen_all, seen_used}
 use Rattle.rule_scopes.specs.Occurrences.{Occurrence, uses, declared, occurrences_in, occurrences_step}
-use Rattle.rule_scopes.specs.Occurrences.{level_occurrences, block_occurrences}
+use Rattle.rule_scopes.specs.Occurrences.{is_undeclared, is_repeated, decl_occurrences}
+use Rattle.rule_scopes.specs.Occurrences.{level_occurrences, levels_occurrences, block_occurrences}
 pub use Rattle.rif_tree.proofs.CallerLemmas.{variables_call}
 
 -- what lists the occurrences of a formula
@@ -47,69 +50,108 @@ occurrences_exists held vs f =
     ap (occurrences_in held) (sym (rolls-Exists vs f))
     ∙ ap (λ (k : Lister). k held) (fold-roll-Formula Lister occurrences_step (ExistsLayer vs f))
 
--- ---- mentions
+-- ---- what is found
 
-pub mentions_append : (os ps : List Occurrence) → mentions_of (os ++ ps) ≡ mentions_of os ++ mentions_of ps
-mentions_append os ps = map-append mention_of os ps
+pub seen_append : (m : Misplaced) (os ps : List Occurrence) → seen_all m (os ++ ps) ≡ seen_all (seen_all m os) ps
+seen_append m [] ps = refl
+seen_append m (o ∷ os) ps = seen_append (seen m o) os ps
 
-pub mentions_flat : {A : Type 0} (f : A → List Occurrence) (xs : List A)
-    → mentions_of (flat_map f xs) ≡ flat_map (λ x. mentions_of (f x)) xs
-mentions_flat f [] = refl
-mentions_flat f (x ∷ xs) =
-    mentions_append (f x) (flat_map f xs) ∙ ap (λ ms. mentions_of (f x) ++ ms) (mentions_flat f xs)
+pub ruleset occurrences_at_forms = (occurrences_and, occurrences_or, occurrences_exists, seen_append)
 
-pub mentions_and : (held : List ℕ) (fs : List Formula) → mentions_in held (And fs) ≡ flat_map (mentions_in held) fs
-mentions_and held fs = ap mentions_of (occurrences_and held fs) ∙ mentions_flat (occurrences_in held) fs
+pub used_append : (m : Misplaced) (held us vs : List ℕ)
+    → seen_used m held (us ++ vs) ≡ seen_used (seen_used m held us) held vs
+used_append m held [] vs = refl
+used_append m held (u ∷ us) vs = used_append (seen m (use_of held u)) held us vs
 
-pub mentions_or : (held : List ℕ) (fs : List Formula) → mentions_in held (Or fs) ≡ flat_map (mentions_in held) fs
-mentions_or held fs = ap mentions_of (occurrences_or held fs) ∙ mentions_flat (occurrences_in held) fs
+-- behind uses as occurrences
+pub seen_uses : (m : Misplaced) (held vs : List ℕ) → seen_used m held vs ≡ seen_all m (uses held vs)
+seen_uses m held [] = refl
+seen_uses m held (v ∷ vs) = seen_uses (seen m (use_of held v)) held vs
 
-pub mentions_exists : (held vs : List ℕ) (f : Formula)
-    → mentions_in held (Exists vs f) ≡ mentions_of (declared held vs) ++ mentions_in (held ++ vs) f
-mentions_exists held vs f =
-    ap mentions_of (occurrences_exists held vs f) ∙ mentions_append (declared held vs) (occurrences_in (held ++ vs) f)
+pub used_two : (m : Misplaced) (held us vs : List ℕ)
+    → seen_used (seen_used m held us) held vs ≡ seen_all m (uses held (us ++ vs))
+used_two m held us vs = sym (used_append m held us vs) ∙ seen_uses m held (us ++ vs)
 
-pub ruleset mentions_at_forms = (mentions_and, mentions_or, mentions_exists)
+-- ---- one more in a loop
 
-pub ruleset mentions_of_lists = (mentions_append, mentions_flat)
+flat_more : {A B : Type 0} (f : A → List B) (xs : List A) (i : ℕ) (x : A) → i < length xs → x ≡ get_or xs i x
+    → flat_map f (take (i + 1) xs) ≡ flat_map f (take i xs) ++ f x
+flat_more f xs i x within is =
+    let before = flat_map f (take i xs) in
+    ap (flat_map f) (take_more xs i x within) ∙ flat_map-append f (take i xs) (get_or xs i x ∷ [])
+    ∙ ap (λ ys. before ++ ys) (append-nil (f (get_or xs i x))) ∙ ap (λ y. before ++ f y) (sym is)
 
--- behind a level
-pub level_mentions : (start ms ns : List Mention) (held inside : List ℕ) (level : Level)
-    → ms ≡ start ++ mentions_of (declared held level.vars) → inside ≡ held ++ level.vars
-    → ns ≡ ms ++ flat_map (mentions_in inside) level.such_that
-    → ns ≡ start ++ mentions_of (level_occurrences held level)
-level_mentions start ms ns held inside level first is second =
-    let vars = mentions_of (declared held level.vars) in
-    let all = flat_map (mentions_in (held ++ level.vars)) level.such_that in
-    let formulas = flat_map (occurrences_in (held ++ level.vars)) level.such_that in
-    second ∙ ap₂ (λ us vs. us ++ flat_map (mentions_in vs) level.such_that) first is
-    ∙ append_assoc start vars all
-    ∙ ap (λ us. start ++ (vars ++ us)) (sym (mentions_flat (occurrences_in (held ++ level.vars)) level.such_that))
-    ∙ ap (λ us. start ++ us)
-    (sym (mentions_append (declared held level.vars) formulas))
+pub held_more : {A : Type 0} (f : A → List ℕ) (start held more : List ℕ) (xs : List A) (i : ℕ) (x : A)
+    → i < length xs → x ≡ get_or xs i x → held ≡ start ++ flat_map f (take i xs) → more ≡ held ++ f x
+    → more ≡ start ++ flat_map f (take (i + 1) xs)
+held_more f start held more xs i x within is so_far said =
+    said ∙ ap (λ us. us ++ f x) so_far ∙ append_assoc start (flat_map f (take i xs)) (f x)
+    ∙ ap (λ us. start ++ us) (sym (flat_more f xs i x within is))
 
--- behind the declarations of a block, and its actions
-pub block_mentions : (start ms ns whole : List Mention) (held : List ℕ) (decls : List Decl) (actions : List Action)
-    (i : ℕ) → length decls ≤ i → ms ++ mentions_of (block_occurrences held (drop i decls) actions) ≡ start ++ whole
-    → ns ≡ ms ++ flat_map (λ action. used held (action_variables action)) actions → ns ≡ start ++ whole
-block_mentions start ms ns whole held decls actions i past so_far said =
-    said ∙ ap (λ us. ms ++ us) (sym (mentions_flat (λ action. uses held (action_variables action)) actions))
-    ∙ sym (ap (λ ds. ms ++ mentions_of (block_occurrences held ds actions)) (drop_all i decls past)) ∙ so_far
+pub used_more : {A : Type 0} (f : A → List ℕ) (start m n : Misplaced) (held : List ℕ) (xs : List A) (i : ℕ) (x : A)
+    → i < length xs → x ≡ get_or xs i x → m ≡ seen_used start held (flat_map f (take i xs))
+    → n ≡ seen_used m held (f x) → n ≡ seen_used start held (flat_map f (take (i + 1) xs))
+used_more f start m n held xs i x within is so_far said =
+    said ∙ ap (λ k. seen_used k held (f x)) so_far ∙ sym (used_append start held (flat_map f (take i xs)) (f x))
+    ∙ ap (seen_used start held) (sym (flat_more f xs i x within is))
+
+pub seen_more : {A : Type 0} (f : A → List Occurrence) (start m n : Misplaced) (xs : List A) (i : ℕ) (x : A)
+    → i < length xs → x ≡ get_or xs i x → m ≡ seen_all start (flat_map f (take i xs)) → n ≡ seen_all m (f x)
+    → n ≡ seen_all start (flat_map f (take (i + 1) xs))
+seen_more f start m n xs i x within is so_far said =
+    said ∙ ap (λ k. seen_all k (f x)) so_far ∙ sym (seen_append start (flat_map f (take i xs)) (f x))
+    ∙ ap (seen_all start) (sym (flat_more f xs i x within is))
+
+-- what is left in a loop begins with the next one
+next_left : {A : Type 0} (xs : List A) (i : ℕ) (x : A) → i < length xs → x ≡ get_or xs i x
+    → x ∷ drop (i + 1) xs ≡ drop i xs
+next_left xs i x within is = ap (λ y. y ∷ drop (i + 1) xs) is ∙ sym (drop_more xs i x within)
+
+pub levels_more : (whole m n : Misplaced) (held more : List ℕ) (levels : List Level) (i : ℕ) (level : Level)
+    → i < length levels → level ≡ get_or levels i level
+    → seen_all m (levels_occurrences held (drop i levels)) ≡ whole → n ≡ seen_all m (level_occurrences held level)
+    → more ≡ held ++ level.vars → seen_all n (levels_occurrences more (drop (i + 1) levels)) ≡ whole
+levels_more whole m n held more levels i level within is so_far said holds =
+    let left = drop (i + 1) levels in
+    ap₂ (λ k vs. seen_all k (levels_occurrences vs left)) said holds
+    ∙ sym (seen_append m (level_occurrences held level) (levels_occurrences (held ++ level.vars) left))
+    ∙ ap (λ ls. seen_all m (levels_occurrences held ls)) (next_left levels i level within is) ∙ so_far
+
+pub block_more : (whole m n : Misplaced) (held more : List ℕ) (decls : List Decl) (actions : List Action) (i : ℕ)
+    (decl : Decl) → i < length decls → decl ≡ get_or decls i decl
+    → seen_all m (block_occurrences held (drop i decls) actions) ≡ whole
+    → n ≡ seen_all m (decl_occurrences held decl) → more ≡ held ++ decl_variable decl ∷ []
+    → seen_all n (block_occurrences more (drop (i + 1) decls) actions) ≡ whole
+block_more whole m n held more decls actions i decl within is so_far said holds =
+    let left = drop (i + 1) decls in
+    ap₂ (λ k vs. seen_all k (block_occurrences vs left actions)) said holds
+    ∙ sym (seen_append m (decl_occurrences held decl)
+    (block_occurrences (held ++ decl_variable decl ∷ []) left actions))
+    ∙ ap (λ ds. seen_all m (block_occurrences held ds actions)) (next_left decls i decl within is) ∙ so_far
 
 -- ---- the first that is told of
 
-found_at : (is : Bool) (o : Occurrence) (ms : Option Mention) (os : Option Occurrence)
-    → option_map Mention.var ms ≡ option_map Occurrence.variable os
-    → option_map Mention.var (cond is (Some (mention_of o)) ms)
-    ≡ option_map Occurrence.variable (cond is (Some o) os)
-found_at true o ms os same = refl
-found_at false o ms os same = same
+abbrev variable_told : Option Occurrence → Option ℕ
+variable_told found = option_map Occurrence.variable found
 
--- where a test of mentions says the same as one of occurrences, both find the same variable
-pub found_same : (told : Mention → Bool) (os : List Occurrence)
-    → option_map Mention.var (find told (mentions_of os))
-    ≡ option_map Occurrence.variable (find (λ o. told (mention_of o)) os)
-found_same told [] = refl
-found_same told (o ∷ os) =
-    found_at (told (mention_of o)) o (find told (mentions_of os)) (find (λ p. told (mention_of p)) os)
-    (found_same told os)
+told_first : (is : Bool) (o : Occurrence) (found : Option ℕ) (rest : Option Occurrence)
+    → option_or (told is o.variable found) (variable_told rest) ≡ option_or found (variable_told (cond is (Some o) rest))
+told_first true o (Some v) rest = refl
+told_first true o None rest = refl
+told_first false o found rest = refl
+
+or_none : (found : Option ℕ) → option_or found None ≡ found
+or_none (Some v) = refl
+or_none None = refl
+
+pub undeclared_told : (m : Misplaced) (os : List Occurrence)
+    → (seen_all m os).undeclared ≡ option_or m.undeclared (variable_told (find is_undeclared os))
+undeclared_told m [] = sym (or_none m.undeclared)
+undeclared_told m (o ∷ os) =
+    undeclared_told (seen m o) os ∙ told_first (is_undeclared o) o m.undeclared (find is_undeclared os)
+
+pub repeated_told : (m : Misplaced) (os : List Occurrence)
+    → (seen_all m os).repeated ≡ option_or m.repeated (variable_told (find is_repeated os))
+repeated_told m [] = sym (or_none m.repeated)
+repeated_told m (o ∷ os) =
+    repeated_told (seen m o) os ∙ told_first (is_repeated o) o m.repeated (find is_repeated os)

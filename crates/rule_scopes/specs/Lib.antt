@@ -1,4 +1,4 @@
 pub mod Laws
-pub mod Mentions
+pub mod Misplaced
 pub mod Numbering
 pub mod Occurrences

@@ -3,7 +3,7 @@
 //! | File | Has | Its words |
 //! |---|---|---|
 //! | `scopes.rt` | `undeclared`, `repeated`: what stands where it may not | `specs/Occurrences.antt` |
-//! | `occurrences.rt`, `mention.rt`, `variables.rt` | places where variables stand | `specs/Mentions.antt` |
+//! | `occurrences.rt`, `misplaced.rt`, `variables.rt` | the walk that finds it | `specs/Misplaced.antt` |
 //! | `numbered_rule.rt` | `NumberedRule`, `number` | `specs/Numbering.antt` |
 //! | `numbered_formula.rt`, `numbered_block.rt`, `numbered_term.rt`, `naming.rt` | its parts | |
 //! | `laws.rt` | laws of rules with numbers | `specs/Laws.antt`, safe_rules `specs/Named.antt` |
@@ -12,7 +12,7 @@
 #![tactic(auto)]
 
 mod laws;
-mod mention;
+mod misplaced;
 mod naming;
 mod numbered_block;
 mod numbered_formula;

@@ -62,7 +62,7 @@ pub fn numbered_decls(
         ≡ scope.old.items ++ namings_from (length declared.old.items) (map decl_variable decls.now)) }
     ensures declared { OnOk result (declared.new.items ≡ declared.old.items ++ map decl_variable decls.now) }
 {
-    let mut all = Vec::new(alloc);
+    let mut all = Vec::with_capacity(alloc, decls.len())?;
     for decl in decls {
         let next = next_number(declared.as_slice())?;
         all.push(numbered_decl(alloc, scope.as_slice(), next, decl)?)?;
@@ -81,7 +81,7 @@ pub fn numbered_actions(
 ) -> Result<Items<Action>, OutOfMemory>
     ensures { IfOk result (λ made. made ≡ map (numbered_action scope.now) actions.now) }
 {
-    let mut all = Vec::new(alloc);
+    let mut all = Vec::with_capacity(alloc, actions.len())?;
     for action in actions {
         all.push(numbered_action(alloc, scope, action)?)?;
     }

@@ -32,12 +32,12 @@ pub fn numbered_formula(
 {
     match formula {
         Formula::And(members) => {
-            let mut made = Vec::new(alloc);
+            let mut made = Vec::with_capacity(alloc, members.len())?;
             push_numbered(alloc, &mut made, scope, declared, members.as_slice())?;
             Ok(Formula::And(Items::from_vec(made)))
         }
         Formula::Or(branches) => {
-            let mut made = Vec::new(alloc);
+            let mut made = Vec::with_capacity(alloc, branches.len())?;
             push_numbered(alloc, &mut made, scope, declared, branches.as_slice())?;
             Ok(Formula::Or(Items::from_vec(made)))
         }

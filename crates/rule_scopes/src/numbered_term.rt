@@ -32,7 +32,7 @@ pub fn numbered_terms(
 ) -> Result<Items<Term>, OutOfMemory>
     ensures { IfOk result (λ made. made ≡ map (numbered_term scope.now) terms.now) }
 {
-    let mut all = Vec::new(alloc);
+    let mut all = Vec::with_capacity(alloc, terms.len())?;
     for term in terms {
         all.push(numbered_term(alloc, scope, term)?)?;
     }
@@ -47,7 +47,7 @@ pub fn numbered_pairs(
 ) -> Result<Items<(Term, Term)>, OutOfMemory>
     ensures { IfOk result (λ made. made ≡ map (numbered_pair scope.now) pairs.now) }
 {
-    let mut all = Vec::new(alloc);
+    let mut all = Vec::with_capacity(alloc, pairs.len())?;
     for pair in pairs {
         let slot = numbered_term(alloc, scope, &pair.0)?;
         let value = numbered_term(alloc, scope, &pair.1)?;

@@ -2,8 +2,7 @@
 ghost use Rattle.std.specs.Prelude.{◌≡◌, IfOk};
 ghost use Rattle.rule_scopes.specs.Occurrences.{first_undeclared, first_repeated};
 
-use crate::mention::{first_repeated, first_undeclared};
-use crate::occurrences::rule_mentions;
+use crate::occurrences::rule_misplaced;
 use rif_tree::Rule;
 use rif_values::OutOfMemory;
 use std::alloc::Global;
@@ -16,8 +15,8 @@ use std::alloc::Global;
 pub fn undeclared(alloc: Global, rule: &Rule) -> Result<Option<u32>, OutOfMemory>
     ensures { IfOk result (λ found. found ≡ first_undeclared rule.now) }
 {
-    let mentions = rule_mentions(alloc, rule)?;
-    Ok(first_undeclared(mentions.as_slice()))
+    let found = rule_misplaced(alloc, rule)?;
+    Ok(found.undeclared)
 }
 
 /// The variable of a rule's first declaration, in the text, of one that holds there already, if there is one: its
@@ -27,6 +26,6 @@ pub fn undeclared(alloc: Global, rule: &Rule) -> Result<Option<u32>, OutOfMemory
 pub fn repeated(alloc: Global, rule: &Rule) -> Result<Option<u32>, OutOfMemory>
     ensures { IfOk result (λ found. found ≡ first_repeated rule.now) }
 {
-    let mentions = rule_mentions(alloc, rule)?;
-    Ok(first_repeated(mentions.as_slice()))
+    let found = rule_misplaced(alloc, rule)?;
+    Ok(found.repeated)
 }

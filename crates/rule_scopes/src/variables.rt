@@ -1,64 +1,77 @@
-//! The variables of terms.
-ghost use Rattle.std.specs.Prelude.{◌≡◌, ◌++◌, OnOk};
+//! Uses of the variables of terms, in the order of the text. None takes memory.
+ghost use Rattle.std.specs.Prelude.{◌≡◌, ◌++◌};
 ghost use Rattle.std.specs.List.{flat_map};
 ghost use Rattle.rif_tree.specs.Variables.{variables_of, variables_of_pair};
 ghost use Rattle.safe_rules.specs.BlockScope.{frame_variables};
+ghost use Rattle.rule_scopes.specs.Misplaced.{seen_all, seen_used};
+ghost use Rattle.rule_scopes.specs.Occurrences.{uses};
 
+use crate::misplaced::{Misplaced, see_use};
 use rif_tree::Term;
-use rif_values::OutOfMemory;
 
-/// Appends a term's variables, in the order of the text.
+/// Sees a term's variables.
 #[cycle(variables)]
 #[tactic(auto, using(crate::proofs::OccurrenceLemmas::variables_call))]
-pub fn push_term(vars: &mut Vec<u32>, term: &Term) -> Result<(), OutOfMemory>
-    ensures { OnOk result (vars.new.items ≡ vars.old.items ++ variables_of term.now) }
+pub fn see_term(found: &mut Misplaced, held: &[u32], term: &Term)
+    ensures { found.new ≡ seen_used found.old held.now (variables_of term.now) }
 {
     match term {
-        Term::Const(_) => Ok(()),
-        Term::Var(var) => {
-            vars.push(*var)?;
-            Ok(())
-        }
-        Term::Call(_, arguments) => push_terms(vars, arguments.as_slice()),
+        Term::Const(_) => {}
+        Term::Var(var) => see_use(found, held, *var),
+        Term::Call(_, arguments) => see_each(found, held, arguments.as_slice()),
     }
 }
 
-/// Appends the variables of some terms.
 #[cycle(variables)]
-pub fn push_terms(vars: &mut Vec<u32>, terms: &[Term]) -> Result<(), OutOfMemory>
-    ensures { OnOk result (vars.new.items ≡ vars.old.items ++ flat_map variables_of terms.now) }
+#[tactic(auto, using(crate::proofs::OccurrenceLemmas::used_append))]
+fn see_each(found: &mut Misplaced, held: &[u32], terms: &[Term])
+    ensures { found.new ≡ seen_used found.old held.now (flat_map variables_of terms.now) }
 {
     for term in terms {
-        push_term(vars, term)?;
+        see_term(found, held, term);
     }
-    Ok(())
 }
 
-fn push_pairs(vars: &mut Vec<u32>, pairs: &[(Term, Term)]) -> Result<(), OutOfMemory>
-    ensures { OnOk result (vars.new.items ≡ vars.old.items ++ flat_map variables_of_pair pairs.now) }
+#[tactic(auto, using(crate::proofs::OccurrenceLemmas::used_append))]
+fn see_pairs(found: &mut Misplaced, held: &[u32], pairs: &[(Term, Term)])
+    ensures { found.new ≡ seen_used found.old held.now (flat_map variables_of_pair pairs.now) }
 {
     for pair in pairs {
-        push_two(vars, &pair.0, &pair.1)?;
+        see_term(found, held, &pair.0);
+        see_term(found, held, &pair.1);
     }
-    Ok(())
 }
 
-/// Appends the variables of two terms.
-pub fn push_two(vars: &mut Vec<u32>, first: &Term, second: &Term) -> Result<(), OutOfMemory>
-    ensures { OnOk result (vars.new.items ≡ vars.old.items ++ (variables_of first.now ++ variables_of second.now)) }
+/// Sees uses of the variables of one term.
+#[tactic(auto, using(crate::proofs::OccurrenceLemmas::seen_uses))]
+pub fn see_one(found: &mut Misplaced, held: &[u32], term: &Term)
+    ensures { found.new ≡ seen_all found.old (uses held.now (variables_of term.now)) }
 {
-    push_term(vars, first)?;
-    push_term(vars, second)
+    see_term(found, held, term)
 }
 
-/// Appends the variables of an object and its slots.
-pub fn push_frame(
-    vars: &mut Vec<u32>,
-    object: &Term,
-    pairs: &[(Term, Term)],
-) -> Result<(), OutOfMemory>
-    ensures { OnOk result (vars.new.items ≡ vars.old.items ++ frame_variables object.now pairs.now) }
+/// Sees uses of the variables of some terms.
+#[tactic(auto, using(crate::proofs::OccurrenceLemmas::seen_uses))]
+pub fn see_terms(found: &mut Misplaced, held: &[u32], terms: &[Term])
+    ensures { found.new ≡ seen_all found.old (uses held.now (flat_map variables_of terms.now)) }
 {
-    push_term(vars, object)?;
-    push_pairs(vars, pairs)
+    see_each(found, held, terms)
+}
+
+/// Sees uses of the variables of two terms.
+#[tactic(auto, using(crate::proofs::OccurrenceLemmas::used_two))]
+pub fn see_two(found: &mut Misplaced, held: &[u32], first: &Term, second: &Term)
+    ensures { found.new ≡ seen_all found.old (uses held.now (variables_of first.now ++ variables_of second.now)) }
+{
+    see_term(found, held, first);
+    see_term(found, held, second);
+}
+
+/// Sees uses of the variables of an object and its slots.
+#[tactic(auto, using(crate::proofs::OccurrenceLemmas::used_two))]
+pub fn see_frame(found: &mut Misplaced, held: &[u32], object: &Term, pairs: &[(Term, Term)])
+    ensures { found.new ≡ seen_all found.old (uses held.now (frame_variables object.now pairs.now)) }
+{
+    see_term(found, held, object);
+    see_pairs(found, held, pairs);
 }

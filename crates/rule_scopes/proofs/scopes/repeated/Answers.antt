@@ -1,15 +1,10 @@
-use Rattle.std.proofs.Common.{rules, ◌≡◌, ◌∙◌}
-use Rattle.std.specs.List.{find}
-use Rattle.std.specs.Option.{option_map}
-use Rattle.rule_scopes.specs.declared.mention.Mention.{Mention}
-use Rattle.rule_scopes.specs.Mentions.{mentions_of, told_repeated}
+use Rattle.std.proofs.Common.{◌≡◌, ◌∙◌, ap}
+use Rattle.rule_scopes.specs.declared.misplaced.Misplaced.{Misplaced}
+use Rattle.rule_scopes.specs.Misplaced.{nothing}
 use Rattle.rule_scopes.specs.Occurrences.{rule_occurrences}
-use Rattle.rule_scopes.proofs.OccurrenceLemmas.{found_same}
+use Rattle.rule_scopes.proofs.OccurrenceLemmas.{repeated_told}
 use Rattle.rule_scopes.proofs.scopes.repeated.Goals as goal
 
 pub returns : goal.returns
 returns c =
-    let all = rule_occurrences c.args.rule.now in
-    let found = find told_repeated (mentions_of all) in
-    let said : c.first_repeated.result ≡ option_map Mention.var found = search rules in
-    said ∙ found_same told_repeated all
+    ap Misplaced.repeated c.in_ok-found.ensures ∙ repeated_told nothing (rule_occurrences c.args.rule.now)

@@ -1,7 +1,0 @@
-use Rattle.std.proofs.Common.{◌≡◌, drop}
-use Rattle.std.specs.List.{find}
-use Rattle.rule_scopes.specs.Mentions.{told_repeated}
-use Rattle.rule_scopes.proofs.mention.first_repeated.Given as goal
-
-abbrev pub invariant-loop-mention : goal.invariant-loop-mention
-invariant-loop-mention l = find told_repeated (drop l.mention-index l.mentions) ≡ find told_repeated l.mentions
