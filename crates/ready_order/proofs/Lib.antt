@@ -1,5 +1,6 @@
 mod ArrangedLemmas
 mod ArrangesLemmas
+mod BoundLemmas
 mod BranchesLemmas
 mod ConditionLemmas
 mod ConjunctsLemmas
@@ -13,6 +14,7 @@ mod LikenessLemmas
 mod ListLemmas
 mod LossLemmas
 mod MarksLemmas
+mod OwnLemmas
 mod PieceLemmas
 mod ProbingLemmas
 mod ScopeLemmas

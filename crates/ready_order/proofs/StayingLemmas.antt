@@ -1,7 +1,8 @@
 -- What stands ready in the shape of arranged conditions is left as it is.
 use Rattle.std.proofs.Common.{◌≡◌, ℕ, Bool, true, false, cond, List, [], ◌∷◌, ◌++◌, Some, None, map, ap, ap₂}
-use Rattle.std.proofs.Common.{◌∙◌}
-use Rattle.std.proofs.Common.{sym, refl}
+use Rattle.std.proofs.Common.{◌&&◌, ◌==◌, length, ◌∙◌, sym, refl, subst, append_assoc, arith}
+use Rattle.std.proofs.lemmas.Bool.Decides.{nat_tests}
+use Rattle.std.proofs.lemmas.List.{append-nil}
 use Rattle.std.specs.List.{list_all, flat_map}
 use Rattle.std.specs.Option.{option_map}
 use Rattle.rif_tree.specs.declared.tree.Term.{Term}
@@ -37,26 +38,30 @@ pieces_alike (f ∷ fs) all = ap₂ (λ us ws. us ++ ws) all.0.free (pieces_alik
 
 -- all are taken in their order
 abbrev InOrder : List ℕ → List Formula → Type 0
-InOrder bound fs = (last : List ℕ) × Arranges bound (map piece_of fs) fs [] last
+InOrder bound fs = Arranges bound (map piece_of fs) fs [] (bound ++ free_in_pieces (map piece_of fs))
 
 each_in_order : (fs : List Formula) → EachPiece IsStaying fs → (bound : List ℕ)
     → each_ready (map part_of fs) bound ≡ true → InOrder bound fs
-each_in_order [] all bound ready = (bound, ends bound [] tt)
+each_in_order [] all bound ready = subst (Arranges bound [] [] []) (sym (append-nil bound)) (ends bound [] tt)
 each_in_order (f ∷ fs) all bound ready =
     let piece = piece_of f in
     let now = (part_of f).is_ready bound in
     let later = each_ready (map part_of fs) (bound ++ (part_of f).free) in
+    let last = bound ++ (piece.free ++ free_in_pieces (map piece_of fs)) in
     let others = each_in_order fs all.1 (bound ++ piece.free)
-    (ap (λ (us : List ℕ). each_ready (map part_of fs) (bound ++ us)) all.0.free ∙ and_second now later ready) in (
-      others.0,
-      takes bound [] piece (map piece_of fs) f fs [] others.0 tt (all.0.stays bound
-          (and_first now later ready))
-          others.1,
-    )
+    (ap (λ (us : List ℕ). each_ready (map part_of fs) (bound ++ us)) all.0.free ∙ and_second now later ready) in
+    takes bound [] piece (map piece_of fs) f fs [] last tt (all.0.stays bound (and_first now later ready))
+    (subst (Arranges (bound ++ piece.free) (map piece_of fs) fs [])
+    (append_assoc bound piece.free (free_in_pieces (map piece_of fs))) others)
 
-arrangement_in_order : (bound : List ℕ) (fs : List Formula) → (order : InOrder bound fs)
-    → arrangement bound (map piece_of fs) ≡ record { taken = fs; left = []; bound = order.0 }
-arrangement_in_order bound fs order = taking_law.alone bound (map piece_of fs) fs [] order.0 order.1
+-- so much is bound behind them
+abbrev WhollyTaken : List ℕ → List Formula → Arrangement
+WhollyTaken bound fs = record { taken = fs; left = []; bound = bound ++ free_in_pieces (map piece_of fs) }
+
+arrangement_in_order : (bound : List ℕ) (fs : List Formula) → InOrder bound fs
+    → arrangement bound (map piece_of fs) ≡ WhollyTaken bound fs
+arrangement_in_order bound fs order =
+    taking_law.alone bound (map piece_of fs) fs [] (bound ++ free_in_pieces (map piece_of fs)) order
 
 and_stays : (fs : List Formula) → EachPiece IsStaying fs → (bound : List ℕ) → is_ready bound (And fs) ≡ true
     → option_map (λ gs. And gs)
@@ -133,6 +138,38 @@ staying_closed = record {
 pub ready_arranged : IsReadyArranged
 ready_arranged bound f = (piece_induction IsStaying staying_closed f).stays bound
 
+-- formulas that are ready in their order are taken so
+pub ready_in_order : (bound : List ℕ) (fs : List Formula) → each_ready (map part_of fs) bound ≡ true
+    → arrangement bound (map piece_of fs) ≡ WhollyTaken bound fs
+ready_in_order bound fs ready =
+    arrangement_in_order bound fs (each_in_order fs (each_piece IsStaying staying_closed fs) bound ready)
+
+-- ---- readiness at each form that has formulas inside it
+
+pub free_alike : (f : Formula) → (piece_of f).free ≡ (part_of f).free
+free_alike f = (piece_induction IsStaying staying_closed f).free
+
+pub each_free_alike : (fs : List Formula) → free_in_pieces (map piece_of fs) ≡ free_in (map part_of fs)
+each_free_alike fs = pieces_alike fs (each_piece IsStaying staying_closed fs)
+
+pub ready_and : (bound : List ℕ) (fs : List Formula) → is_ready bound (And fs) ≡ each_ready (map part_of fs) bound
+ready_and bound fs = ap (λ (p : Part). p.is_ready bound) (part_and fs)
+
+pub ready_or : (bound : List ℕ) (fs : List Formula)
+    → is_ready bound (Or fs)
+    ≡ list_all (branch_ready bound (free_in_pieces (map piece_of fs))) (map part_of fs)
+ready_or bound fs =
+    ap (λ (p : Part). p.is_ready bound) (part_or fs)
+    ∙ ap (λ (all : List ℕ). list_all (branch_ready bound all) (map part_of fs)) (sym (each_free_alike fs))
+
+pub ready_not : (bound : List ℕ) (f : Formula)
+    → is_ready bound (Not f) ≡ (has_all bound (piece_of f).free && is_ready bound f)
+ready_not bound f =
+    ap (λ (p : Part). p.is_ready bound) (part_not f)
+    ∙ ap (λ (us : List ℕ). has_all bound us && is_ready bound f) (sym (free_alike f))
+
+pub ruleset ready_at_forms = (ready_and, ready_or, ready_not)
+
 -- ---- what has the shape is its own conjuncts
 
 shape_at : (x : Formula-F Formula) (f : Formula) → roll-Formula x ≡ f
@@ -153,6 +190,13 @@ shape_exists vs f = shape_at (ExistsLayer vs f) (Exists vs f) (rolls-Exists vs f
 
 pub shape_frame : (o : Term) (pairs : List (Term × Term)) → shape_of (Frame o pairs) ≡ shape_step (FrameLayer o pairs)
 shape_frame o pairs = shape_at (FrameLayer o pairs) (Frame o pairs) (rolls-Frame o pairs)
+
+pub ruleset shape_at_forms = (shape_and, shape_or)
+
+pub one_counted : (pairs : List (Term × Term)) → has_one pairs ≡ (length pairs == 1)
+one_counted [] = refl
+one_counted (pair ∷ []) = refl
+one_counted (pair ∷ second ∷ pairs) = grind (arith, nat_tests)
 
 record IsOwn (f : Formula) (conjuncts : List Formula) : Type 0 where
   alone : (shape_of f).alone ≡ true → conjuncts ≡ f ∷ []
@@ -223,14 +267,21 @@ own_kept = record {
   };
 }
 
+each_own : (fs : List Formula) → EachOwn fs
+each_own [] = tt
+each_own (f ∷ fs) = (conjunct_induction IsOwn own_kept f, each_own fs)
+
+-- conjuncts that stand alone are their own
+pub alone_own : (fs : List Formula) → list_all Shape.alone (map shape_of fs) ≡ true
+    → flat_map conjuncts_of fs ≡ fs
+alone_own fs = members_own fs (each_own fs)
+
 pub arranged_stays : IsArrangedStaying
 arranged_stays f shaped ready =
     let fs = conjuncts_of f in
     let own = (conjunct_induction IsOwn own_kept f).together shaped in
     let whole : is_ready [] (And fs) ≡ true = ap (is_ready []) own ∙ ready in
-    let order = each_in_order fs (each_piece IsStaying staying_closed fs) []
-    (sym (ap (λ (p : Part). p.is_ready []) (part_and fs)) ∙ whole) in
-    let is = arrangement_in_order [] fs order in
+    let is = ready_in_order [] fs (sym (ready_and [] fs) ∙ whole) in
     record {
       taken = ap (λ (a : Arrangement). And a.taken) is ∙ own;
       left = ap (λ (a : Arrangement). a.left) is;

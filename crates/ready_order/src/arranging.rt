@@ -12,23 +12,50 @@ ghost use Rattle.ready_order.specs.Marks.{left_of, pieces_left, progress_told, t
 
 use crate::division::Division;
 use crate::findings::Findings;
-use crate::flattening::conjuncts;
+use crate::flattening::{conjuncts, own_conjuncts};
 use crate::probing::may_be_arranged;
 use crate::progress::{Found, Progress, are_all};
 use crate::readiness::is_plain_ready;
+use crate::standing::stand_in_turn;
 use crate::variables::{binds_all, free_in, free_in_each, is_closed};
 use rif_tree::Formula;
 use rif_values::OutOfMemory;
 use sqlite_items::{Boxed, Items};
 use std::alloc::Global;
 
-/// A condition's conjuncts, put into a ready order as far as that can be, at the cost of `conjuncts` and
-/// `arrange_conjuncts`.
+/// A condition's conjuncts, put into a ready order as far as that can be, at the cost of `conjuncts` and, where they
+/// don't stand in one, `arrange_conjuncts`.
 pub fn arrange(alloc: Global, condition: &Formula) -> Result<Division, OutOfMemory>
     ensures { IfOk result (λ done. arrangement_told done ≡ arrangement_of condition.now) }
 {
     let all = conjuncts(alloc, condition)?;
-    arrange_conjuncts(alloc, all.as_slice())
+    divide(alloc, all)
+}
+
+/// The same of a condition that is given up. Where its conjuncts stand ready in their order, they are taken as they
+/// are: then it costs a walk through the condition, and, where it has another shape than arranged conditions, what
+/// `conjuncts` does.
+pub fn arrange_owned(alloc: Global, condition: Formula) -> Result<Division, OutOfMemory>
+    ensures { IfOk result (λ done. arrangement_told done ≡ arrangement_of condition) }
+{
+    let all = own_conjuncts(alloc, condition)?;
+    divide(alloc, all)
+}
+
+// Conjuncts put into a ready order. None is copied where they stand in one.
+fn divide(alloc: Global, conjuncts: Items<Formula>) -> Result<Division, OutOfMemory>
+    ensures { IfOk result (λ done. arrangement_told done ≡ arrangement [] (map piece_of conjuncts)) }
+{
+    let mut bound = Vec::new(alloc);
+    if stand_in_turn(alloc, &mut bound, conjuncts.as_slice())? {
+        Ok(Division {
+            taken: conjuncts,
+            left: Items::new(alloc),
+            bound: Items::from_vec(bound),
+        })
+    } else {
+        arrange_conjuncts(alloc, conjuncts.as_slice())
+    }
 }
 
 /// Conjuncts put into a ready order as far as that can be, where no variable is bound before. They are what

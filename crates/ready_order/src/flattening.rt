@@ -4,6 +4,7 @@ ghost use Rattle.std.specs.List.{flat_map};
 ghost use Rattle.rif_tree.specs.declared.tree.Formula.TheVariants.{And};
 ghost use Rattle.ready_order.specs.Conjuncts.{conjuncts_of, slots_of};
 
+use crate::shape::are_alone;
 use rif_tree::{Formula, Term};
 use rif_values::OutOfMemory;
 use sqlite_items::{Boxed, Items};
@@ -16,6 +17,60 @@ pub fn conjuncts(alloc: Global, formula: &Formula) -> Result<Items<Formula>, Out
     let mut all = Vec::new(alloc);
     push_conjuncts(alloc, &mut all, formula)?;
     Ok(Items::from_vec(all))
+}
+
+/// The conjuncts of a formula that is given up. Where it has the shape of arranged conditions, but for an `And` at its
+/// end, as a rule has its `If` formula behind its `such that` formulas, they are moved, and else it costs what
+/// `conjuncts` does.
+pub(crate) fn own_conjuncts(alloc: Global, formula: Formula) -> Result<Items<Formula>, OutOfMemory>
+    ensures { IfOk result (λ all. all ≡ conjuncts_of formula) }
+{
+    match formula {
+        Formula::And(members) => members_conjuncts(alloc, members),
+        other => conjuncts(alloc, &other),
+    }
+}
+
+fn members_conjuncts(alloc: Global, members: Items<Formula>) -> Result<Items<Formula>, OutOfMemory>
+    ensures { IfOk result (λ all. all ≡ conjuncts_of (And members)) }
+{
+    let mut before = members;
+    match before.pop() {
+        None => Ok(before),
+        Some(last) => {
+            if are_alone(before.as_slice()) {
+                push_last(alloc, &mut before, last)?;
+                Ok(before)
+            } else {
+                before.push(last)?;
+                conjuncts(alloc, &Formula::And(before))
+            }
+        }
+    }
+}
+
+// Puts the conjuncts of a formula behind others.
+fn push_last(alloc: Global, all: &mut Items<Formula>, last: Formula) -> Result<(), OutOfMemory>
+    ensures { OnOk result (all.new ≡ all.old ++ conjuncts_of last) }
+{
+    let own = last_conjuncts(alloc, last)?;
+    all.append(own)?;
+    Ok(())
+}
+
+fn last_conjuncts(alloc: Global, last: Formula) -> Result<Items<Formula>, OutOfMemory>
+    ensures { IfOk result (λ all. all ≡ conjuncts_of last) }
+{
+    match last {
+        Formula::And(members) => {
+            if are_alone(members.as_slice()) {
+                Ok(members)
+            } else {
+                conjuncts(alloc, &Formula::And(members))
+            }
+        }
+        other => conjuncts(alloc, &other),
+    }
 }
 
 #[cycle(conjuncts)]
@@ -100,7 +155,7 @@ fn push_slots(
     ensures { OnOk result (all.new.items ≡ all.old.items ++ slots_of object.now pairs.now) }
 {
     for pair in pairs {
-        let mut slot = Vec::new(alloc);
+        let mut slot = Vec::with_capacity(alloc, 1)?;
         slot.push((pair.0.copy(alloc)?, pair.1.copy(alloc)?))?;
         all.push(Formula::Frame(object.copy(alloc)?, Items::from_vec(slot)))?;
     }

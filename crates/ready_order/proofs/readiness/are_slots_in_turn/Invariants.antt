@@ -1,6 +1,6 @@
 use Rattle.std.proofs.Common.{◌≡◌, drop}
 use Rattle.rif_tree.specs.Ready.{slots_ready}
-use Rattle.ready_order.proofs.readiness.are_slots_ready.Given as goal
+use Rattle.ready_order.proofs.readiness.are_slots_in_turn.Given as goal
 
 abbrev pub invariant-loop-pair : goal.invariant-loop-pair
 invariant-loop-pair l =
