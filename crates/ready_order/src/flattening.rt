@@ -19,8 +19,8 @@ pub fn conjuncts(alloc: Global, formula: &Formula) -> Result<Items<Formula>, Out
     Ok(Items::from_vec(all))
 }
 
-/// The conjuncts of a formula that is given up. Where it has the shape of arranged conditions, but for an `And` at its
-/// end, as a rule has its `If` formula behind its `such that` formulas, they are moved, and else it costs what
+/// The conjuncts of a formula that is given up. Where it has the shape of arranged conditions, but for an `And` at
+/// its end, as a rule has its `If` formula behind its `such that` formulas, they are moved, and else it costs what
 /// `conjuncts` does.
 pub(crate) fn own_conjuncts(alloc: Global, formula: Formula) -> Result<Items<Formula>, OutOfMemory>
     ensures { IfOk result (λ all. all ≡ conjuncts_of formula) }

@@ -32,7 +32,7 @@ pub fn safe_doc_of(alloc: Global, doc: &Doc) -> Result<SafeDoc, Fault>
     ensures refused { IfErr result (RefusesRules doc.now) }
 {
     made_rules_are_safe();
-    let mut rules = Vec::new(alloc);
+    let mut rules = Vec::with_capacity(alloc, doc.rules.len())?;
     for (place, rule) in doc.rules.as_slice().iter().enumerate() {
         match safe_rule(alloc, number_at(place), rule) {
             Ok(made) => rules.push(made)?,

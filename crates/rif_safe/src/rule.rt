@@ -14,12 +14,13 @@ ghost use Rattle.rif_safe.specs.Safeness.{IsMade, arranged_rule, bound_rule, dec
 ghost use Rattle.rif_safe.specs.Safeness.{scoped_rule};
 ghost use Rattle.rif_safe.specs.Safeness.{unsafe_variable};
 
-use ready_order::{Division, arrange, too_many_branches};
+use ready_order::{Division, arrange_owned, too_many_branches};
 use rif_refusals::{Fault, Refusal};
 use rif_tree::{Formula, Rule, has_variable};
 use rif_values::{OutOfMemory, Text};
 use rule_scopes::{NumberedRule, number, repeated, undeclared};
 use safe_rules::SafeRule;
+use sqlite_items::Items;
 use std::alloc::Global;
 
 /// The rule of a number made safe, or its refusal.
@@ -56,7 +57,7 @@ fn declared_rule(alloc: Global, rule_number: u32, rule: &Rule) -> Result<SafeRul
     scoped_rule(alloc, rule_number, rule.priority, numbered)
 }
 
-// Such a rule, with numbers.
+// Such a rule, with numbers. Its condition is divided, and doesn't stand in the rule then.
 fn scoped_rule(
     alloc: Global,
     rule_number: u32,
@@ -68,8 +69,22 @@ fn scoped_rule(
     if too_many_branches(&rule.condition) {
         return Err(too_many_branches_at(rule_number));
     }
-    let division = arrange(alloc, &rule.condition)?;
-    arranged_rule(alloc, rule_number, priority, rule, division)
+    let NumberedRule {
+        names,
+        head_vars,
+        condition,
+        decls,
+        actions,
+    } = rule;
+    let division = arrange_owned(alloc, condition)?;
+    let others = NumberedRule {
+        names,
+        head_vars,
+        condition: Formula::And(Items::new(alloc)),
+        decls,
+        actions,
+    };
+    arranged_rule(alloc, rule_number, priority, others, division)
 }
 
 // A rule whose condition is divided so.

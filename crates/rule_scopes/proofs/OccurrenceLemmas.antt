@@ -135,7 +135,8 @@ abbrev variable_told : Option Occurrence → Option ℕ
 variable_told found = option_map Occurrence.variable found
 
 told_first : (is : Bool) (o : Occurrence) (found : Option ℕ) (rest : Option Occurrence)
-    → option_or (told is o.variable found) (variable_told rest) ≡ option_or found (variable_told (cond is (Some o) rest))
+    → option_or (told is o.variable found) (variable_told rest)
+    ≡ option_or found (variable_told (cond is (Some o) rest))
 told_first true o (Some v) rest = refl
 told_first true o None rest = refl
 told_first false o found rest = refl
