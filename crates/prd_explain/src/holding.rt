@@ -18,7 +18,8 @@ pub struct Holding {
     pub is_used: bool,
 }
 
-/// The variables that hold at a mention, in the order of the rule's names. Two passes over the mentions for each name.
+/// The variables that hold at a mention, in the order of the rule's names. Two passes over the mentions for each of
+/// the names, of which a rule has 32 at most.
 pub fn holding_at(
     alloc: Global,
     view: &RuleView<'_>,
