@@ -11,7 +11,8 @@
 //! | `calls.rt`, `limits.rt` | numbers of arguments, and limits |
 //! | `unreadable.rt` | where no token begins |
 //! | `rule_view.rt` | a rule, with where its parts stand |
-//! | `scoping.rt`, `nearest.rt` | variables that don't hold, or hold already, and names that are near |
+//! | `scoping.rt`, `undeclared_hint.rt` | variables that don't hold, or hold already, and what may be meant |
+//! | `holding.rt`, `nearest.rt` | variables that hold at a place, and names that are near |
 //! | `branching.rt` | conditions with too many branches |
 //! | `unbound.rt`, `unbound_hint.rt` | variables that get no value, and what would give them one |
 #![tactic(auto)]
@@ -21,6 +22,7 @@ mod branching;
 mod calls;
 mod expected;
 mod explaining;
+mod holding;
 mod keywords;
 mod limits;
 mod names;
@@ -33,6 +35,7 @@ mod spot;
 mod tests;
 mod unbound;
 mod unbound_hint;
+mod undeclared_hint;
 mod unreadable;
 mod wanted;
 

@@ -1,13 +1,13 @@
 //! Variables that are used where they don't hold, or declared where they do, in words.
-use crate::nearest::nearest_to;
 use crate::rule_view::{RuleView, push_variable};
-use refusal_lines::{Explanation, Place, push_place};
+use crate::undeclared_hint::tell_meant;
+use refusal_lines::{Explanation, Place};
 use rif_values::OutOfMemory;
 use rule_outline::{Declarer, Mention};
 use std::alloc::Global;
 
 /// The first use of a variable that doesn't hold there. Where one of its name is declared elsewhere in the rule,
-/// that is told; else the nearest name that holds there, if one is near.
+/// that is told; else what may be meant.
 pub fn explain_undeclared(
     alloc: Global,
     view: &RuleView<'_>,
@@ -23,7 +23,7 @@ pub fn explain_undeclared(
         .position(|one| is_namesake(mentions, at, one))
     {
         Some(other) => relate_namesake(alloc, view, &mut explanation, other)?,
-        None => explanation.hint = hint_of_nearest(alloc, view, at)?,
+        None => tell_meant(alloc, view, &mut explanation, at)?,
     }
     Ok(Some(explanation))
 }
@@ -58,28 +58,6 @@ fn relate_namesake(
         _ => b" is declared here, and holds behind its declaration alone".as_slice(),
     })?;
     explanation.relate(place, words)
-}
-
-// The declared name that is nearest, with its place.
-fn hint_of_nearest(
-    alloc: Global,
-    view: &RuleView<'_>,
-    at: usize,
-) -> Result<Option<Vec<u8>>, OutOfMemory> {
-    let Some(nearest) = nearest_to(alloc, view, at)? else {
-        return Ok(None);
-    };
-    let (Some(mention), Some(place)) = (view.mention(nearest), view.place_of_mention(nearest))
-    else {
-        return Ok(None);
-    };
-    let mut words = Vec::new(alloc);
-    words.extend_from_slice(b"did you mean ")?;
-    push_variable(&mut words, view.name(mention.var))?;
-    words.extend_from_slice(b", declared at ")?;
-    push_place(&mut words, place)?;
-    words.push(b'?')?;
-    Ok(Some(words))
 }
 
 /// The first declaration of a variable inside the reach of one of its name, and that one.
