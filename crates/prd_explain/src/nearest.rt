@@ -9,7 +9,7 @@ use strsim::damerau_levenshtein;
 const MOST_BYTES: usize = 256;
 
 /// Of some variables those with the names that are nearest to that of another; none where no name is near. One edit
-/// may be needed for each three characters, and one in a shorter name. Of those that are as near, the ones that are
+/// may be needed for each three characters, and one in a name of two. Of those that are as near, the ones that are
 /// never used come alone, if there are any.
 pub fn nearest_to(
     alloc: Global,
@@ -53,9 +53,12 @@ fn distance_of(
     }
 }
 
-// How many edits a name may be away from one that is near.
+// How many edits a name may be away from one that is near. A name of one character is near to no other.
 fn most_edits(name: &str) -> usize {
-    (name.chars().count() / 3).max(1)
+    match name.chars().count() {
+        0 | 1 => 0,
+        more => (more / 3).max(1),
+    }
 }
 
 fn short_name<'a>(view: &RuleView<'a>, var: u32) -> Option<&'a str> {
