@@ -66,6 +66,14 @@ impl Batch {
         self.entries.as_slice()
     }
 
+    /// The entries, in order, in constant time.
+    pub fn into_entries(self) -> Listed<Entry>
+        ensures entries { result ≡ self }
+        ensures lawful { IsLawful self }
+    {
+        self.entries
+    }
+
     /// An equal batch, at the cost of a copy of each entry.
     pub fn copy(&self) -> Result<Batch, OutOfMemory>
         ensures { IfOk result (λ copy. copy ≡ self.now) }

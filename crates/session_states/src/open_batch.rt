@@ -45,6 +45,15 @@ impl OpenBatch {
         }
     }
 
+    /// A batch that is open again, in constant time: one that couldn't enter a session takes more entries so.
+    pub fn reopen(batch: Batch) -> OpenBatch
+        ensures { result.entries ≡ batch }
+    {
+        OpenBatch {
+            entries: batch.into_entries().into_vec(),
+        }
+    }
+
     /// The entries, in order, in constant time.
     pub fn entries(&self) -> &[Entry]
         ensures entries { result.now ≡ self.now.entries }
