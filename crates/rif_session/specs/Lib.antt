@@ -1,2 +1,4 @@
-pub mod Sessions
+pub mod Budgets
 pub mod Passes
+pub mod Sessions
+pub mod Steps

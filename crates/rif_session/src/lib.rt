@@ -4,21 +4,23 @@
 //! |---|---|---|
 //! | `named.rt` | `Named`, which list and which document a session is of | |
 //! | `gate.rt` | `Gate`, `NoGate`: who is told of a session's steps | |
-//! | `core.rt` | `Core`, the engine, the taker and the entries held | `specs/Sessions.antt` |
+//! | `session_core.rt` | `Core`, the engine, the taker and the entries held | `specs/Sessions.antt`, `specs/Steps.antt` |
 //! | `passing.rt` | `pass`, `Rest`: batches are taken and settled until nothing fires | `specs/Passes.antt` |
+//! | `entering.rt` | how entries enter an engine as a batch, and as all the batches that they make | |
 //! | `session.rt` | `Session`, `Served`, `Outcome` | `specs/Sessions.antt` |
 //!
 //! Begin at `Session`.
 #![tactic(auto)]
 
-mod core;
+mod entering;
 mod gate;
 mod named;
 mod passing;
 mod session;
+mod session_core;
 
-pub use core::Core;
 pub use gate::{Gate, NoGate};
 pub use named::Named;
 pub use passing::{Rest, pass};
 pub use session::{Outcome, Served, Session};
+pub use session_core::Core;
