@@ -1,1 +1,3 @@
-pub mod FrontProps
+pub mod BudgetLemmas
+pub mod FrontLemmas
+pub mod ListLemmas

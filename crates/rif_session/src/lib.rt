@@ -16,11 +16,11 @@ mod entering;
 mod gate;
 mod named;
 mod passing;
-mod session;
+//MS
 mod session_core;
 
 pub use gate::{Gate, NoGate};
 pub use named::Named;
 pub use passing::{Rest, pass};
-pub use session::{Outcome, Served, Session};
+//PSpub use session::{Outcome, Served, Session};
 pub use session_core::Core;

@@ -1,7 +1,10 @@
 ghost use Rattle.std.specs.Prelude.{◌≡◌, ◌≢◌, ◌⊎◌, ◌+◌, [], false, length, true, IfOk, IsTrue, None, OnErr, OnOk, Some};
+ghost use Rattle.std.proofs.Props.{props};
+ghost use Rattle.std.specs.Coded.{Coded-set};
 ghost use Rattle.std.specs.Option.{is_some};
+ghost use Rattle.rif_tree.specs.contracts.tree.Formula as formula;
+ghost use Rattle.rif_tree.specs.contracts.tree.Term as term;
 ghost use Rattle.prd_relation.specs.RuleSystem.{system_of};
-ghost use Rattle.prd_relation.specs.Turns.{first_session};
 ghost use Rattle.session_states.specs.Batches.{IsLawful, joined};
 ghost use Rattle.session_states.specs.OpenBatches.{takes_more};
 ghost use Rattle.session_states.specs.declared.state.State.TheVariants.{Disposed};
@@ -9,7 +12,7 @@ ghost use Rattle.session_states.specs.declared.turn.Act.TheVariants.{Fired, Disp
 ghost use Rattle.rif_engine.specs.SoFar.{last_act_of, MayTake, session_now, settled_run};
 ghost use Rattle.rif_session.specs.Sessions.{AreFrontOfRun, batches_so_far, ends_disposed};
 ghost use Rattle.rif_session.specs.Steps.{Fills};
-ghost use Rattle.rif_session.proofs.FrontProps.{AreFrontFrom-prop};
+ghost use Rattle.rif_session.specs.Fronts.{AreFrontOfRun-prop};
 
 use crate::entering::enter;
 use crate::named::Named;
@@ -31,11 +34,13 @@ pub struct Core<L: Propagation, N: Named> {
     pub(crate) held: OpenBatch,
     pub(crate) taker: L::Taker,
     of: PhantomData<N>,
-    pub ghost known: { engine.doc ≡ N.document },
+    pub ghost known: { engine.doc ≡ N.document } by {
+        Prim.hlevel (props, Coded-set formula.the_row.coded, Coded-set term.the_row.coded)
+    },
     pub ghost tied: { L.taken_from taker ≡ N.list },
     pub ghost same: { L.taken taker ≡ joined (batches_so_far engine) held.entries },
     pub ghost lawful: { AreFrontOfRun (system_of engine.doc) (batches_so_far engine) } by {
-        AreFrontFrom-prop (system_of engine.doc) first_session false false (batches_so_far engine)
+        AreFrontOfRun-prop (system_of engine.doc) (batches_so_far engine)
     },
     pub ghost shut: { L.has_shut taker ≡ true → ends_disposed (batches_so_far engine) ≡ true },
     pub ghost open: { held.entries ≢ [] → (engine.owed ≡ None) × ((session_now engine).state ≢ Disposed) },
