@@ -1,3 +1,4 @@
 pub mod BudgetLemmas
+pub mod CoreLemmas
 pub mod FrontLemmas
 pub mod ListLemmas

@@ -16,6 +16,7 @@ ghost use Rattle.rif_session.specs.Fronts.{AreFrontOfRun-prop};
 
 use crate::entering::enter;
 use crate::named::Named;
+use prd_relation::laws::{a_dispose_disposes, a_session_is_disposed_by_a_dispose, turns_stop_where_they_must};
 use prop_list::Propagation;
 use rif_engine::Engine;
 use rif_values::OutOfMemory;
@@ -43,7 +44,7 @@ pub struct Core<L: Propagation, N: Named> {
         AreFrontOfRun-prop (system_of engine.doc) (batches_so_far engine)
     },
     pub ghost shut: { L.has_shut taker ≡ true → ends_disposed (batches_so_far engine) ≡ true },
-    pub ghost open: { held.entries ≢ [] → (engine.owed ≡ None) × ((session_now engine).state ≢ Disposed) },
+    pub ghost free: { held.entries ≢ [] → (engine.owed ≡ None) × ((session_now engine).state ≢ Disposed) },
 }
 
 impl<L: Propagation, N: Named> Core<L, N> {
@@ -78,6 +79,9 @@ impl<L: Propagation, N: Named> Core<L, N> {
         ensures same { (L.taken self.new.taker ≡ L.taken self.old.taker) × (L.nones self.new.taker ≡ L.nones self.old.taker) }
         ensures shut { IfOk result (λ act. act ≡ DisposedAct → L.has_shut self.new.taker ≡ true) }
     {
+        a_dispose_disposes();
+        a_session_is_disposed_by_a_dispose();
+        turns_stop_where_they_must();
         let act = self.engine.act(self.alloc)?;
         shut_where_disposed(list, &mut self.taker, act);
         Ok(act)
@@ -150,6 +154,9 @@ impl<L: Propagation, N: Named> Core<L, N> {
         ensures none_held { OnOk result (self.new.held.entries ≡ []) }
         ensures err { OnErr result (self.new.engine ≡ self.old.engine) }
     {
+        a_dispose_disposes();
+        a_session_is_disposed_by_a_dispose();
+        turns_stop_where_they_must();
         enter(self.alloc, &mut self.engine, &mut self.held)
     }
 
