@@ -40,6 +40,6 @@ invariant_of-self-2-clause-shut g c = λ is.
       | inr before ↦ core.shut before
     ])
 
-pub invariant_of-self-2-clause-free : goal.invariant_of-self-2-clause-open
+pub invariant_of-self-2-clause-free : goal.invariant_of-self-2-clause-free
 invariant_of-self-2-clause-free g c = λ some.
     absurd (not_none c.args.self.now.engine.owed c.requires.owes (c.args.self.now.free some).0)

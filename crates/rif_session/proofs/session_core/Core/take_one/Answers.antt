@@ -12,7 +12,7 @@ invariant_of-self-in-Some-clause-same g c =
     (ok_of _ c.add.result (c.add.ensures.takes.1 (ap takes_more c.reserve.ensures.entries ∙ c.requires.takes)) c.add.ensures.ok
     ∙ ap (λ es. es ++ c.in-Some.entry ∷ []) c.reserve.ensures.entries)
 
-pub invariant_of-self-in-Some-clause-free : goal.invariant_of-self-in-Some-clause-open
+pub invariant_of-self-in-Some-clause-free : goal.invariant_of-self-in-Some-clause-free
 invariant_of-self-in-Some-clause-free g c = λ some. (c.requires.settled, c.requires.live)
 
 pub invariant_of-self-in-Some-clause-shut : goal.invariant_of-self-in-Some-clause-shut
