@@ -30,6 +30,14 @@ pub not_some : (owed : Option (List Entry)) → is_some owed ≡ false → owed 
 not_some None none = refl
 not_some (Some batch) none = absurd (cc none)
 
+pub not_true : (b : Bool) → not b ≡ true → b ≡ false
+not_true true is = absurd (cc is)
+not_true false is = refl
+
+pub not_false : (b : Bool) → not b ≡ false → b ≡ true
+not_false true is = refl
+not_false false is = absurd (cc is)
+
 -- no entry is held while an act is owed
 pub none_held : (P : Type 0) (owed : Option (List Entry)) (held : List Entry) → IsTrue (is_some owed)
     → (held ≢ [] → (owed ≡ None) × P) → held ≡ []
