@@ -30,14 +30,6 @@ pub not_some : (owed : Option (List Entry)) → is_some owed ≡ false → owed 
 not_some None none = refl
 not_some (Some batch) none = absurd (cc none)
 
-pub not_true : (b : Bool) → not b ≡ true → b ≡ false
-not_true true is = absurd (cc is)
-not_true false is = refl
-
-pub not_false : (b : Bool) → not b ≡ false → b ≡ true
-not_false true is = refl
-not_false false is = absurd (cc is)
-
 -- no entry is held while an act is owed
 pub none_held : (P : Type 0) (owed : Option (List Entry)) (held : List Entry) → IsTrue (is_some owed)
     → (held ≢ [] → (owed ≡ None) × P) → held ≡ []
@@ -73,20 +65,7 @@ owed_advances stops run run' held held' taken taken' nones nones' some is holds 
       short = omega (arith, none);
     }
 
--- a turn was made: entries were taken, and entered
-pub record IsTurn (run run' : RunSoFar) (held held' taken taken' : List Entry) (nones nones' : ℕ) : Type 0 where
-  pub settled : run.owed ≡ None
-  pub fills : Fills held held' taken taken' nones nones'
-  pub short : takes_more held' ≡ true → nones' ≡ nones + 1
-  pub run_is : batches_so_far run' ≡ run.done ++ held' ∷ []
-
-pub turn_passes : (run run' : RunSoFar) (held held' taken taken' : List Entry) (nones nones' : ℕ)
-    → IsTurn run run' held held' taken taken' nones nones' → Passes run run' held taken taken' nones nones'
-turn_passes run run' held held' taken taken' nones nones' turn =
-    passes_one run run' held held' taken taken' nones nones'
-    (turn.run_is ∙ ap (λ (bs : List (List Entry)). bs ++ held' ∷ []) (sym (settled_done run turn.settled)))
-    turn.fills turn.short
-
+-- a turn fired: entries were taken, and entered
 pub turn_advances : StopsWhereItMust → (run run' : RunSoFar) (held held' held'' taken taken' : List Entry)
     (nones nones' : ℕ) → run.owed ≡ None → Fills held held' taken taken' nones nones'
     → (takes_more held' ≡ true → nones' ≡ nones + 1)

@@ -1,7 +1,8 @@
-use Rattle.std.proofs.Common.{◌≡◌, ◌∙◌, inl, inr, refl, sym, ap, IsTrue}
+use Rattle.std.proofs.Common.{◌≡◌, ◌∙◌, inl, refl, rules, sym, ap, IsTrue}
 use Rattle.std.specs.Option.{is_some}
+use Rattle.session_states.specs.declared.state.State.TheVariants.{Disposed}
 use Rattle.session_states.specs.OpenBatches.{BatchWithRoom}
-use Rattle.rif_engine.specs.SoFar.{RunSoFar}
+use Rattle.rif_engine.specs.SoFar.{RunSoFar, session_now}
 use Rattle.rif_session.specs.Sessions.{batches_so_far}
 use Rattle.rif_session.proofs.CoreLemmas.{not_none}
 use Rattle.rif_session.proofs.FrontLemmas.{settled_batches}
@@ -54,3 +55,17 @@ returns-then-eq-clause-passes g c =
     passes_same core.engine core.engine core.held.entries (g.L.Propagation.taken core.taker)
     (g.L.Propagation.taken core.taker) (g.L.Propagation.nones core.taker) (g.L.Propagation.nones core.taker)
     refl refl refl
+
+pub returns-then-eq-clause-nothing : goal.returns-then-eq-clause-nothing
+returns-then-eq-clause-nothing g c = λ is.
+    let core = c.args.core.now in
+    let none = not_some core.engine.owed (sym c.owes.ensures ∙ c.if-owes.false) in
+    let disposed : c.state.result ≡ Disposed = search rules in
+    let now : (session_now core.engine).state ≡ Disposed = sym c.state.ensures ∙ disposed in (
+      none,
+      disposed_rests c.a_firing_disposes_of_nothing.ensures core.engine none now,
+      refl,
+      refl,
+      refl,
+      inl (now, refl),
+    )

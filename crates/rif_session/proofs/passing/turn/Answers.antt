@@ -1,17 +1,17 @@
-use Rattle.std.proofs.Common.{◌≡◌, ◌≢◌, ◌⊎◌, ◌∙◌, ◌<◌, ℕ, Bool, true, false, not, List, [], Some, inl, inr, length, refl, sym, ap, subst}
+use Rattle.std.proofs.Common.{◌≡◌, ◌≢◌, ◌⊎◌, ◌∙◌, ◌<◌, ℕ, List, [], Some, inl, inr, length, refl, sym, ap, subst}
 use Rattle.session_states.specs.declared.item.Entry.{Entry}
 use Rattle.session_states.specs.declared.turn.Act.TheVariants.{Fired}
 use Rattle.session_states.specs.OpenBatches.{BatchWithRoom, takes_more}
 use Rattle.rif_engine.specs.SoFar.{RunSoFar, last_act_of, settled_run}
 use Rattle.rif_session.specs.Steps.{Advances}
-use Rattle.rif_session.proofs.PassLemmas.{held_or_taken, none_taken, not_false, not_true, turn_advances}
+use Rattle.rif_session.proofs.PassLemmas.{held_or_taken, none_taken, turn_advances}
 use Rattle.rif_session.proofs.passing.turn.Goals as goal
 
 pub returns-then-not-may_enter-clause-nothing : goal.returns-then-not-may_enter-clause-nothing
 returns-then-not-may_enter-clause-nothing g c = λ is.
     let core = c.args.core.now in
     let fill = c.in_ok-fill.ensures in
-    let rests = c.may_enter.ensures.rests (not_true c.may_enter.result c.if-not-may_enter.true) in
+    let rests = c.may_enter.ensures.rests c.if-not-may_enter.true in
     let same = none_taken core.held.entries c.fill.new.self.held.entries (g.L.Propagation.taken core.taker)
     (g.L.Propagation.taken c.fill.new.self.taker) (g.L.Propagation.nones core.taker)
     (g.L.Propagation.nones c.fill.new.self.taker) fill.fills rests.1 in (
@@ -68,7 +68,7 @@ returns-clause-acted g c =
     c.in_ok-settle.ensures.same.1 ∙ ap g.L.Propagation.nones c.in_ok-enter.ensures.taker in
     let busy : (last_act_of core.engine ≡ Some Fired) ⊎ (core.held.entries ≢ [])
     ⊎ (length (g.L.Propagation.taken core.taker) < length (g.L.Propagation.taken done.taker)) =
-    elim (c.may_enter.ensures.enters (not_false c.may_enter.result c.if-not-may_enter.false)) [
+    elim (c.may_enter.ensures.enters c.if-not-may_enter.false) [
       inl last ↦ inl (sym (ap last_act_of fill.engine) ∙ last)
       | inr some ↦ inr (subst (λ (es : List Entry). (core.held.entries ≢ [])
           ⊎ (length (g.L.Propagation.taken core.taker) < length es)) (sym taken)
