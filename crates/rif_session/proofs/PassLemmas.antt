@@ -1,6 +1,6 @@
 -- The steps of a pass.
 use Rattle.std.proofs.Common.{◌≡◌, ◌≢◌, ◌∙◌, ◌⊎◌, inl, inr, ℕ, ◌+◌, ◌<◌, Bool, true, false, not, List, [], ◌∷◌, ◌++◌}
-use Rattle.std.proofs.Common.{Some, None, refl, ap, sym, append-nil, arith, length, IsTrue}
+use Rattle.std.proofs.Common.{Some, None, refl, ap, sym, subst, append-nil, arith, length, IsTrue}
 use Rattle.std.proofs.lemmas.List.{length-append}
 use Rattle.std.specs.Option.{is_some}
 use Rattle.std.specs.declared.option.Option.{Option}
@@ -12,9 +12,9 @@ use Rattle.prd_relation.specs.Laws.{FiringsStayLive, StopsWhereItMust}
 use Rattle.prd_relation.specs.Turns.{Session}
 use Rattle.rif_engine.specs.SoFar.{RunSoFar, last_act_of, session_now, settled_run}
 use Rattle.rif_session.specs.Budgets.{budget_left, budgets_of}
-use Rattle.rif_session.specs.Passes.{Passes}
+use Rattle.rif_session.specs.Passes.{IsBusy, Passes}
 use Rattle.rif_session.specs.Sessions.{batches_so_far}
-use Rattle.rif_session.specs.Steps.{Advances, Fills}
+use Rattle.rif_session.specs.Steps.{Advances, Fills, HasBegun, WasBusy}
 use Rattle.rif_session.proofs.BudgetLemmas.{advances_one, owed_fired, passes_none, passes_one}
 use Rattle.rif_session.proofs.CoreLemmas.{not_none}
 use Rattle.rif_session.proofs.FrontLemmas.{fired_is_live, settled_batches, settled_done, settled_session}
@@ -104,3 +104,27 @@ held_or_taken [] held' taken taken' nones nones' fills some = inr (by_new fills.
     by_new [] not_empty takes = absurd (not_empty refl)
     by_new (n ∷ new) not_empty takes = omega (arith, ap length takes, length-append taken (n ∷ new))
 held_or_taken (e ∷ held) held' taken taken' nones nones' fills some = inl (λ is. cc is)
+
+-- what there was to do at first, there was after more
+pub busy_on : (run run' : RunSoFar) (held held' taken taken' taken'' : List Entry) (nones nones' : ℕ) (new : List Entry)
+    → HasBegun run run' held held' taken taken' nones nones' → WasBusy run' held' taken' taken''
+    → taken'' ≡ taken' ++ new → WasBusy run held taken taken''
+busy_on run run' held held' taken taken' taken'' nones nones' new (inl same) busy takes =
+    subst (λ (r : RunSoFar). WasBusy r held taken taken'') same.run_same
+    (subst (λ (es : List Entry). WasBusy run' es taken taken'') same.held_same
+    (subst (λ (es : List Entry). WasBusy run' held' es taken'') same.taken_same busy))
+busy_on run run' held held' taken taken' taken'' nones nones' new (inr (last, inl owes)) busy takes = inl owes
+busy_on run run' held held' taken taken' taken'' nones nones' new (inr (last, inr (live, inl fired))) busy takes =
+    inr (live, inl fired)
+busy_on run run' held held' taken taken' taken'' nones nones' new (inr (last, inr (live, inr (inl some)))) busy takes =
+    inr (live, inr (inl some))
+busy_on run run' held held' taken taken' taken'' nones nones' new (inr (last, inr (live, inr (inr more)))) busy takes =
+    inr (live, inr (inr (omega (arith, more, ap length takes, length-append taken' new))))
+
+pub was_busy : (run : RunSoFar) (held taken taken' : List Entry) → WasBusy run held taken taken'
+    → IsBusy run held taken taken'
+was_busy run held taken taken' (inl owes) = inl owes
+was_busy run held taken taken' (inr (live, inl fired)) = inr (live, inl fired)
+was_busy run held taken taken' (inr (live, inr (inl some))) = inr (live, inr (inl some))
+was_busy run held taken taken' (inr (live, inr (inr more))) =
+    inr (live, inr (inr (λ is. let same : length taken' ≡ length taken = ap length is in absurd (omega (arith, more, same)))))
