@@ -1,6 +1,6 @@
 -- What the turns of a pass cost.
-use Rattle.std.proofs.Common.{◌≡◌, ◌≢◌, ◌∙◌, ℕ, suc, ◌+◌, ◌-◌, ◌≤◌, ◌<◌, ◌^◌, min, Bool, true, false, List, [], ◌∷◌, ◌++◌}
-use Rattle.std.proofs.Common.{refl, ap, sym, subst, length, fold, Some, None, inl, inr, append_assoc, append-nil, arith}
+use Rattle.std.proofs.Common.{◌≡◌, ◌∙◌, ℕ, suc, ◌+◌, ◌≤◌, Bool, true, false, List, [], ◌∷◌, ◌++◌}
+use Rattle.std.proofs.Common.{refl, ap, sym, Some, None, inl, inr, append_assoc, append-nil, arith}
 use Rattle.std.proofs.Common.{IsTrue, if◌then◌else◌}
 use Rattle.std.proofs.lemmas.List.{length-append}
 use Rattle.std.specs.Option.{is_some}
@@ -15,9 +15,9 @@ use Rattle.session_states.specs.Machine.{state_after, joined_budget}
 use Rattle.session_states.specs.OpenBatches.{takes_more}
 use Rattle.prd_relation.specs.Laws.{IsReason, StopsWhereItMust}
 use Rattle.prd_relation.specs.RuleSystem.{RuleSystem, system_of}
-use Rattle.prd_relation.specs.Turns.{Session, first_session, session_after, session_with, state_with, turn_of}
+use Rattle.prd_relation.specs.Turns.{Session, first_session, session_after, session_with, state_with}
 use Rattle.prd_relation.specs.Runs.{session_at_end}
-use Rattle.rif_engine.specs.SoFar.{RunSoFar, MayTake, last_act_of, owed_batches, session_before, session_now}
+use Rattle.rif_engine.specs.SoFar.{RunSoFar, last_act_of, owed_batches, session_before, session_now}
 use Rattle.rif_engine.specs.SoFar.{session_with_owed, settled_run}
 use Rattle.rif_session.specs.Budgets.{budget_in, budget_left, budgets_of, short_batches}
 use Rattle.rif_session.specs.Passes.{Passes}

@@ -1,6 +1,6 @@
 -- What a core keeps where a batch enters and where an act is settled.
-use Rattle.std.proofs.Common.{◌≡◌, ◌≢◌, ◌∙◌, ◌⊎◌, inl, inr, ℕ, ◌+◌, ◌≤◌, Bool, true, List, [], ◌∷◌, ◌++◌, Some, None, Ok, Err}
-use Rattle.std.proofs.Common.{refl, ap, sym, subst, append_assoc, append-nil, arith, IsTrue, IsOk, OnOk, OnErr}
+use Rattle.std.proofs.Common.{◌≡◌, ◌≢◌, ◌∙◌, ◌⊎◌, inl, inr, ℕ, Bool, true, List, [], ◌∷◌, ◌++◌, Some, None, Ok, Err}
+use Rattle.std.proofs.Common.{ap, sym, subst, append_assoc, append-nil, arith, IsTrue, IsOk, OnOk, OnErr}
 use Rattle.std.specs.Option.{is_some}
 use Rattle.std.specs.declared.option.Option.{Option}
 use Rattle.std.specs.declared.result.Result.{Result}

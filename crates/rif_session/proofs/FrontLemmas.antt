@@ -1,5 +1,5 @@
 -- The first batches of a run, and one more.
-use Rattle.std.proofs.Common.{◌≡◌, ◌≢◌, ◌∙◌, ◌⊎◌, inl, inr, suc, ◌-◌, Bool, true, false, List, [], ◌∷◌, ◌++◌, Some, None}
+use Rattle.std.proofs.Common.{◌≡◌, ◌≢◌, ◌∙◌, suc, ◌-◌, Bool, true, false, List, [], ◌∷◌, ◌++◌, Some, None}
 use Rattle.std.proofs.Common.{refl, ap, sym, subst, length, slice_get, append-nil, arith, IsTrue}
 use Rattle.std.specs.Option.{is_some, option_and_then, option_map_or}
 use Rattle.std.specs.declared.option.Option.{Option}
@@ -14,7 +14,7 @@ use Rattle.prd_relation.specs.Laws.{DisposesByDispose, DisposesOnlyByDispose, Fi
 use Rattle.prd_relation.specs.RuleSystem.{RuleSystem, system_of}
 use Rattle.prd_relation.specs.Runs.{AreLawful, AreLawfulFrom, EmptyOnlyIfFired, fires, is_fired, run_of, session_at_end}
 use Rattle.prd_relation.specs.Runs.{turns_from}
-use Rattle.prd_relation.specs.Turns.{Session, first_session, outcome_of, session_after, turn_of}
+use Rattle.prd_relation.specs.Turns.{Session, first_session, session_after, turn_of}
 use Rattle.rif_engine.specs.SoFar.{RunSoFar, MayTake, last_act, last_act_of, owed_batches, session_before, session_now}
 use Rattle.rif_engine.specs.SoFar.{session_with_owed, settled_run, unsettled_turns}
 use Rattle.rif_session.specs.Sessions.{AreFrontFrom, AreFrontOfRun, batches_so_far, ends_disposed}

@@ -1,13 +1,12 @@
 -- Lists of entries and of batches.
-use Rattle.std.proofs.Common.{◌≡◌, ◌≢◌, ◌∙◌, ℕ, suc, ◌+◌, ◌-◌, ◌≤◌, ◌<◌, Bool, true, false, List, [], ◌∷◌, ◌++◌, refl}
-use Rattle.std.proofs.Common.{ap, sym, subst, length, slice_get, append_assoc, append-nil, arith}
+use Rattle.std.proofs.Common.{◌≡◌, ◌≢◌, ◌∙◌, suc, ◌+◌, ◌-◌, ◌<◌, Bool, true, false, List, [], ◌∷◌, ◌++◌, refl}
+use Rattle.std.proofs.Common.{ap, sym, length, slice_get, append_assoc, append-nil, arith}
 use Rattle.std.proofs.lemmas.List.{length-append}
 use Rattle.std.specs.Option.{option_map_or}
 use Rattle.session_states.specs.declared.item.Item.{Item}
 use Rattle.session_states.specs.declared.item.Entry.{Entry}
 use Rattle.session_states.specs.Batches.{ends_in, joined}
-use Rattle.session_states.specs.OpenBatches.{takes_more}
-use Rattle.rif_session.specs.Budgets.{budget_in, budgets_of, short_batches}
+use Rattle.rif_session.specs.Budgets.{budgets_of, short_batches}
 
 pub joined_append : (batches : List (List Entry)) (first second : List Entry)
     → joined batches (first ++ second) ≡ joined batches first ++ second

@@ -1,5 +1,5 @@
 -- The steps of a pass.
-use Rattle.std.proofs.Common.{◌≡◌, ◌≢◌, ◌∙◌, ◌⊎◌, inl, inr, ℕ, ◌+◌, ◌<◌, Bool, true, false, not, List, [], ◌∷◌, ◌++◌}
+use Rattle.std.proofs.Common.{◌≡◌, ◌≢◌, ◌∙◌, ◌⊎◌, inl, inr, ℕ, ◌+◌, ◌<◌, true, false, List, [], ◌∷◌, ◌++◌}
 use Rattle.std.proofs.Common.{Some, None, refl, ap, sym, subst, append-nil, arith, length, IsTrue}
 use Rattle.std.proofs.lemmas.List.{length-append}
 use Rattle.std.specs.Option.{is_some}
@@ -15,9 +15,9 @@ use Rattle.rif_session.specs.Budgets.{budget_left, budgets_of}
 use Rattle.rif_session.specs.Passes.{IsBusy, Passes}
 use Rattle.rif_session.specs.Sessions.{batches_so_far}
 use Rattle.rif_session.specs.Steps.{Advances, Fills, HasBegun, WasBusy}
-use Rattle.rif_session.proofs.BudgetLemmas.{advances_one, owed_fired, passes_none, passes_one}
+use Rattle.rif_session.proofs.BudgetLemmas.{advances_one, owed_fired, passes_none}
 use Rattle.rif_session.proofs.CoreLemmas.{not_none}
-use Rattle.rif_session.proofs.FrontLemmas.{fired_is_live, settled_batches, settled_done, settled_session}
+use Rattle.rif_session.proofs.FrontLemmas.{fired_is_live, settled_batches, settled_session}
 use Rattle.rif_session.proofs.ListLemmas.{none_before}
 
 -- a session that is disposed didn't fire last

@@ -4,7 +4,7 @@
 --     AreFrontOfRun sys bs     the batches may be the first ones of a run: all that is asked of those of a run, but that
 --                              the last turn doesn't fire
 -- Source: the project's own (docs/PROFILE.md, "Batches" and "Turns").
-use Rattle.std.specs.Prelude.{◌≡◌, Bool, true, false, List, [], ◌∷◌, ◌++◌}
+use Rattle.std.specs.Prelude.{◌≡◌, Bool, false, List, [], ◌∷◌, ◌++◌}
 use Rattle.session_states.specs.declared.item.Entry.{Entry}
 use Rattle.session_states.specs.Batches.{IsLawful, ends_in, is_dispose, is_disposing, joined}
 use Rattle.prd_relation.specs.RuleSystem.{RuleSystem}

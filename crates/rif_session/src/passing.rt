@@ -10,7 +10,8 @@ use crate::gate::Gate;
 use crate::named::Named;
 use crate::session_core::Core;
 use prd_relation::laws::{
-    a_dispose_disposes, a_firing_disposes_of_nothing, a_session_is_disposed_by_a_dispose, turns_stop_where_they_must,
+    a_dispose_disposes, a_firing_disposes_of_nothing, a_session_is_disposed_by_a_dispose,
+    turns_stop_where_they_must,
 };
 use prop_list::Propagation;
 use rif_values::OutOfMemory;

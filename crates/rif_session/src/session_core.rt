@@ -16,7 +16,9 @@ ghost use Rattle.rif_session.specs.Fronts.{AreFrontOfRun-prop};
 
 use crate::entering::enter;
 use crate::named::Named;
-use prd_relation::laws::{a_dispose_disposes, a_session_is_disposed_by_a_dispose, turns_stop_where_they_must};
+use prd_relation::laws::{
+    a_dispose_disposes, a_session_is_disposed_by_a_dispose, turns_stop_where_they_must,
+};
 use prop_list::Propagation;
 use rif_engine::Engine;
 use rif_values::OutOfMemory;
@@ -35,14 +37,10 @@ pub struct Core<L: Propagation, N: Named> {
     pub(crate) held: OpenBatch,
     pub(crate) taker: L::Taker,
     of: PhantomData<N>,
-    pub ghost known: { engine.doc ≡ N.document } by {
-        Prim.hlevel (props, Coded-set formula.the_row.coded, Coded-set term.the_row.coded)
-    },
+    pub ghost known: { engine.doc ≡ N.document } by { Prim.hlevel (props, Coded-set formula.the_row.coded, Coded-set term.the_row.coded) },
     pub ghost tied: { L.taken_from taker ≡ N.list },
     pub ghost same: { L.taken taker ≡ joined (batches_so_far engine) held.entries },
-    pub ghost lawful: { AreFrontOfRun (system_of engine.doc) (batches_so_far engine) } by {
-        AreFrontOfRun-prop (system_of engine.doc) (batches_so_far engine)
-    },
+    pub ghost lawful: { AreFrontOfRun (system_of engine.doc) (batches_so_far engine) } by { AreFrontOfRun-prop (system_of engine.doc) (batches_so_far engine) },
     pub ghost shut: { L.has_shut taker ≡ true → ends_disposed (batches_so_far engine) ≡ true },
     pub ghost free: { held.entries ≢ [] → (engine.owed ≡ None) × ((session_now engine).state ≢ Disposed) },
 }

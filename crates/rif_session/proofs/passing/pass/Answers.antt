@@ -58,11 +58,13 @@ loop-preserved g c =
           (g.L.Propagation.taken old.taker) (g.L.Propagation.taken core.taker) (g.L.Propagation.taken new.taker)
           (g.L.Propagation.nones old.taker) (g.L.Propagation.nones core.taker) (g.L.Propagation.nones new.taker)
           c.loop.invariant.advances (c.in_ok-act.ensures.fired (cc (c.in-Some-2.is, fired)));
-      begun = inr (acted.1 ∙ ap (λ (a : Act). Some a) fired,
-          busy_on old.engine core.engine old.held.entries core.held.entries (g.L.Propagation.taken old.taker)
-          (g.L.Propagation.taken core.taker) (g.L.Propagation.taken new.taker) (g.L.Propagation.nones old.taker)
-          (g.L.Propagation.nones core.taker) c.in_ok-act.ensures.passes.new c.loop.invariant.begun acted.4
-          c.in_ok-act.ensures.passes.takes);
+      begun = inr (
+        acted.1 ∙ ap (λ (a : Act). Some a) fired,
+        busy_on old.engine core.engine old.held.entries core.held.entries (g.L.Propagation.taken old.taker)
+            (g.L.Propagation.taken core.taker) (g.L.Propagation.taken new.taker) (g.L.Propagation.nones old.taker)
+            (g.L.Propagation.nones core.taker) c.in_ok-act.ensures.passes.new c.loop.invariant.begun acted.4
+            c.in_ok-act.ensures.passes.takes,
+      );
       more = tt;
       ends = tt;
     }

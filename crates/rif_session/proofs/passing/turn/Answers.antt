@@ -1,4 +1,4 @@
-use Rattle.std.proofs.Common.{◌≡◌, ◌≢◌, ◌⊎◌, ◌∙◌, ◌<◌, ℕ, List, [], Some, inl, inr, length, refl, sym, ap, subst}
+use Rattle.std.proofs.Common.{◌≡◌, ◌≢◌, ◌⊎◌, ◌∙◌, ◌<◌, ℕ, List, [], Some, inl, inr, length, sym, ap, subst}
 use Rattle.session_states.specs.declared.item.Entry.{Entry}
 use Rattle.session_states.specs.declared.turn.Act.TheVariants.{Fired}
 use Rattle.session_states.specs.OpenBatches.{BatchWithRoom, takes_more}
@@ -69,7 +69,7 @@ returns-clause-acted g c =
     let busy : (last_act_of core.engine ≡ Some Fired) ⊎ (core.held.entries ≢ [])
     ⊎ (length (g.L.Propagation.taken core.taker) < length (g.L.Propagation.taken done.taker)) =
     elim (c.may_enter.ensures.enters c.if-not-may_enter.false) [
-      inl last ↦ inl (sym (ap last_act_of fill.engine) ∙ last)
+      | inl last ↦ inl (sym (ap last_act_of fill.engine) ∙ last)
       | inr some ↦ inr (subst (λ (es : List Entry). (core.held.entries ≢ [])
           ⊎ (length (g.L.Propagation.taken core.taker) < length es)) (sym taken)
           (held_or_taken core.held.entries filled.held.entries (g.L.Propagation.taken core.taker)

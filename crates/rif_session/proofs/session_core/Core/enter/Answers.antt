@@ -1,4 +1,4 @@
-use Rattle.std.proofs.Common.{◌≡◌, ◌∙◌, ◌⊎◌, inl, inr}
+use Rattle.std.proofs.Common.{◌∙◌, ◌⊎◌}
 use Rattle.rif_session.proofs.CoreLemmas.{Entered, Kept, entered_or, known_on, lawful_on, free_on, same_on, shut_on}
 use Rattle.rif_session.proofs.FrontLemmas.{DisposeLaws}
 use Rattle.rif_session.proofs.session_core.Core.enter.Goals as goal

@@ -1,4 +1,4 @@
-use Rattle.std.proofs.Common.{◌≡◌, ◌∙◌, true, List, Some, ap, sym, subst, inl, inr}
+use Rattle.std.proofs.Common.{◌∙◌, List, Some, ap, sym, subst, inl, inr}
 use Rattle.session_states.specs.Batches.{joined}
 use Rattle.session_states.specs.declared.item.Entry.{Entry}
 use Rattle.session_states.specs.declared.turn.Act.{Act}
@@ -31,11 +31,11 @@ invariant_of-self-2-clause-shut g c = λ is.
     let batches = ap batches_so_far c.in_ok-act.ensures.ok ∙ settled_batches core.engine in
     ap ends_disposed batches
     ∙ (elim (c.shut_where_disposed.ensures.other is) [
-      inl disposed ↦ act_disposes (record {
-          by = c.a_dispose_disposes.ensures;
-          only = c.a_session_is_disposed_by_a_dispose.ensures;
-          stops = c.turns_stop_where_they_must.ensures;
-        }) core.engine core.lawful c.requires.owes
+      | inl disposed ↦ act_disposes (record {
+        by = c.a_dispose_disposes.ensures;
+        only = c.a_session_is_disposed_by_a_dispose.ensures;
+        stops = c.turns_stop_where_they_must.ensures;
+      }) core.engine core.lawful c.requires.owes
           (sym (ap last_act_of c.in_ok-act.ensures.ok) ∙ c.in_ok-act.ensures.act ∙ ap (λ (a : Act). Some a) disposed)
       | inr before ↦ core.shut before
     ])

@@ -1,4 +1,4 @@
-use Rattle.std.proofs.Common.{◌≡◌, ◌∙◌, [], ◌∷◌, ◌++◌, sym, ap}
+use Rattle.std.proofs.Common.{◌∙◌, [], ◌∷◌, ◌++◌, sym, ap}
 use Rattle.session_states.specs.OpenBatches.{takes_more}
 use Rattle.rif_session.specs.Sessions.{batches_so_far}
 use Rattle.rif_session.proofs.CoreLemmas.{held_more, ok_of}
