@@ -1,0 +1,5 @@
+pub mod BudgetLemmas
+pub mod CoreLemmas
+pub mod FrontLemmas
+pub mod ListLemmas
+pub mod PassLemmas

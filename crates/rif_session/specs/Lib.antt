@@ -1,0 +1,5 @@
+pub mod Budgets
+pub mod Fronts
+pub mod Passes
+pub mod Sessions
+pub mod Steps
