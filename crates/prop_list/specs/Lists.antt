@@ -6,7 +6,8 @@
 --     Tells id claims shut f    what a seat's refusal says of its list at the end
 --     claims_of s               how many places a seat has asked for: one for each accepted item, one for a refusal
 -- Source: the project's own (docs/PROFILE.md, "Clients").
-use Rattle.std.specs.Prelude.{◌≡◌, ℕ, ◌<◌, ◌⊎◌, ◌==◌, Bool, true, List, [], ◌∷◌, Some, None, MatchOption, if◌then◌else◌}
+use Rattle.std.specs.Prelude.{◌≡◌, ℕ, ◌<◌, ◌⊎◌, ◌==◌, Bool, true, List, [], ◌∷◌, Some, None, MatchOption}
+use Rattle.std.specs.Prelude.{if◌then◌else◌}
 use Rattle.std.specs.declared.option.Option.{Option}
 use Rattle.atomic_table.specs.Seated.{TableId}
 use Rattle.session_states.specs.declared.item.Entry.{Entry}

@@ -98,7 +98,8 @@ pub trait Propagation: Sized {
         requires { taken_from taker.old ≡ identity self.now }
         ensures same { (taken_from taker.new ≡ taken_from taker.old) × (has_shut taker.new ≡ has_shut taker.old) }
         ensures entry { MatchOption result
-            ((taken taker.new ≡ taken taker.old) × (nones taker.new ≡ nones taker.old + 1) × misses taker.old taker.new)
+            ((taken taker.new ≡ taken taker.old) × (nones taker.new ≡ nones taker.old + 1)
+            × misses taker.old taker.new)
             (λ entry. (taken taker.new ≡ taken taker.old ++ entry ∷ []) × (nones taker.new ≡ nones taker.old)) };
 
     /// Whether the seat's last accepted entry is taken, as far as a look shows.
@@ -137,7 +138,8 @@ pub trait Propagation: Sized {
         requires seats { AllByRecursion (λ seat. list_of seat ≡ identity self) seats.items }
         requires all { length seats.items ≡ (identity self).seats }
         ensures left { IfOk result (λ left.
-            AllByRecursion (λ seat. accepted seat ≡ entries_of (client seat) (taken taker ++ left.items)) seats.items) }
+            AllByRecursion (λ seat. accepted seat ≡ entries_of (client seat) (taken taker ++ left.items))
+            seats.items) }
         ensures named { IfOk result (λ left.
             AllByRecursion (λ entry. entry.client < (identity self).seats) (taken taker ++ left.items)) }
         ensures refused { OnOk result (AllByRecursion (λ seat. IfSome (refusal seat) (Tells (identity self)

@@ -55,7 +55,8 @@ with_batch : (s : State) (batch : List Entry) → budget_left (state_with s batc
 with_batch s [] = omega arith
 with_batch s (entry ∷ batch) =
     let first = after_item s entry.item in
-    let rest : budget_left (state_with s (entry ∷ batch)) ≤ budget_left (state_after s entry.item) + budgets_of batch =
+    let rest : budget_left (state_with s (entry ∷ batch))
+    ≤ budget_left (state_after s entry.item) + budgets_of batch =
     with_batch (state_after s entry.item) batch in omega (arith, first, rest)
 
 -- a firing lowers the budget by one

@@ -81,7 +81,8 @@ same_on run run' held held' taken none (inr kept) same =
 
 pub lawful_on : DisposeLaws → (run run' : RunSoFar) (held held' : List Entry) → MayTake run held → IsLawful held
     → Entered run run' held held' ⊎ Kept run run' held held'
-    → AreFrontOfRun (system_of run.doc) (batches_so_far run) → AreFrontOfRun (system_of run'.doc) (batches_so_far run')
+    → AreFrontOfRun (system_of run.doc) (batches_so_far run)
+    → AreFrontOfRun (system_of run'.doc) (batches_so_far run')
 lawful_on laws run run' held held' may lawful (inl entered) front =
     subst (λ (r : RunSoFar). AreFrontOfRun (system_of r.doc) (batches_so_far r)) (sym entered.run_is)
     (front_taken laws run held front may lawful)
@@ -92,7 +93,8 @@ lawful_on laws run run' held held' may lawful (inr kept) front =
 shut_no_more : DisposeLaws → (run : RunSoFar) → run.owed ≡ None → (session_before run).state ≢ Disposed
     → AreFrontOfRun (system_of run.doc) (batches_so_far run) → ends_disposed (batches_so_far run) ≡ true → ⊥
 shut_no_more laws run none live front ends =
-    live (ends_is laws (system_of run.doc) run.done (subst (AreFrontOfRun (system_of run.doc)) (settled_done run none) front)
+    live (ends_is laws (system_of run.doc) run.done
+    (subst (AreFrontOfRun (system_of run.doc)) (settled_done run none) front)
     (sym (ap ends_disposed (settled_done run none)) ∙ ends))
 
 pub shut_on : DisposeLaws → (run run' : RunSoFar) (held held' : List Entry) (shut : Bool) → MayTake run held

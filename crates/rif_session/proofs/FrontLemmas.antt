@@ -12,10 +12,12 @@ use Rattle.session_states.specs.declared.turn.Turn.{Turn}
 use Rattle.session_states.specs.Batches.{IsLawful, ends_in, is_dispose, is_disposing, joined}
 use Rattle.prd_relation.specs.Laws.{DisposesByDispose, DisposesOnlyByDispose, FiringsStayLive, StopsWhereItMust}
 use Rattle.prd_relation.specs.RuleSystem.{RuleSystem, system_of}
-use Rattle.prd_relation.specs.Runs.{AreLawful, AreLawfulFrom, EmptyOnlyIfFired, fires, is_fired, run_of, session_at_end}
+use Rattle.prd_relation.specs.Runs.{AreLawful, AreLawfulFrom, EmptyOnlyIfFired, fires, is_fired, run_of}
+use Rattle.prd_relation.specs.Runs.{session_at_end}
 use Rattle.prd_relation.specs.Runs.{turns_from}
 use Rattle.prd_relation.specs.Turns.{Session, first_session, session_after, turn_of}
-use Rattle.rif_engine.specs.SoFar.{RunSoFar, MayTake, last_act, last_act_of, owed_batches, session_before, session_now}
+use Rattle.rif_engine.specs.SoFar.{RunSoFar, MayTake, last_act, last_act_of, owed_batches, session_before}
+use Rattle.rif_engine.specs.SoFar.{session_now}
 use Rattle.rif_engine.specs.SoFar.{session_with_owed, settled_run, unsettled_turns}
 use Rattle.rif_session.specs.Sessions.{AreFrontFrom, AreFrontOfRun, batches_so_far, ends_disposed}
 use Rattle.rif_session.proofs.ListLemmas.{ends_behind, ends_later}
@@ -64,7 +66,8 @@ front_more laws system s fired disposed (first ∷ batches) batch front lawful t
   front.0,
   front.1,
   front.2,
-  front_more laws system (session_after system s first) (fires system s first) (is_disposing first) batches batch front.3
+  front_more laws system (session_after system s first) (fires system s first) (is_disposing first) batches batch
+      front.3
       lawful (after_tells laws system s first front.0 (live_by s disposed tells front.1)) live follows,
 )
 
@@ -78,7 +81,8 @@ live_before laws system s fired disposed (first ∷ batches) batch front tells =
     front.3 (after_tells laws system s first front.0 (live_by s disposed tells front.1))
 
 -- a session that is disposed is so by the last entry
-disposed_ends : DisposeLaws → (system : RuleSystem) (s : Session) (fired disposed : Bool) (batches : List (List Entry))
+disposed_ends : DisposeLaws → (system : RuleSystem) (s : Session) (fired disposed : Bool)
+    (batches : List (List Entry))
     → AreFrontFrom system s fired disposed batches → Tells s disposed → s.state ≢ Disposed
     → (session_at_end system s batches).state ≡ Disposed → ends_in is_dispose (joined batches []) ≡ true
 disposed_ends laws system s fired disposed [] front tells live is = absurd (live is)

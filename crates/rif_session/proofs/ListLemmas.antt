@@ -18,7 +18,8 @@ joined_append (batch ∷ batches) first second =
 pub joined_more : (batches : List (List Entry)) (batch entries : List Entry)
     → joined (batches ++ batch ∷ []) entries ≡ joined batches (batch ++ entries)
 joined_more [] batch entries = refl
-joined_more (first ∷ batches) batch entries = ap (λ (es : List Entry). first ++ es) (joined_more batches batch entries)
+joined_more (first ∷ batches) batch entries =
+    ap (λ (es : List Entry). first ++ es) (joined_more batches batch entries)
 
 ends_cons : (test : Item → Bool) (x y : Entry) (zs : List Entry) → ends_in test (x ∷ y ∷ zs) ≡ ends_in test (y ∷ zs)
 ends_cons test x y zs =

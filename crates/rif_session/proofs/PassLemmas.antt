@@ -98,7 +98,8 @@ none_taken held held' taken taken' nones nones' fills none =
 -- an entry that entered was held, or taken
 pub held_or_taken : (held held' taken taken' : List Entry) (nones nones' : ℕ)
     → Fills held held' taken taken' nones nones' → held' ≢ [] → (held ≢ []) ⊎ (length taken < length taken')
-held_or_taken [] held' taken taken' nones nones' fills some = inr (by_new fills.new (λ none. some (fills.holds ∙ none)) fills.takes)
+held_or_taken [] held' taken taken' nones nones' fills some =
+    inr (by_new fills.new (λ none. some (fills.holds ∙ none)) fills.takes)
   where
     by_new : (new : List Entry) → new ≢ [] → taken' ≡ taken ++ new → length taken < length taken'
     by_new [] not_empty takes = absurd (not_empty refl)
@@ -106,7 +107,8 @@ held_or_taken [] held' taken taken' nones nones' fills some = inr (by_new fills.
 held_or_taken (e ∷ held) held' taken taken' nones nones' fills some = inl (λ is. cc is)
 
 -- what there was to do at first, there was after more
-pub busy_on : (run run' : RunSoFar) (held held' taken taken' taken'' : List Entry) (nones nones' : ℕ) (new : List Entry)
+pub busy_on : (run run' : RunSoFar) (held held' taken taken' taken'' : List Entry) (nones nones' : ℕ)
+    (new : List Entry)
     → HasBegun run run' held held' taken taken' nones nones' → WasBusy run' held' taken' taken''
     → taken'' ≡ taken' ++ new → WasBusy run held taken taken''
 busy_on run run' held held' taken taken' taken'' nones nones' new (inl same) busy takes =
@@ -116,9 +118,11 @@ busy_on run run' held held' taken taken' taken'' nones nones' new (inl same) bus
 busy_on run run' held held' taken taken' taken'' nones nones' new (inr (last, inl owes)) busy takes = inl owes
 busy_on run run' held held' taken taken' taken'' nones nones' new (inr (last, inr (live, inl fired))) busy takes =
     inr (live, inl fired)
-busy_on run run' held held' taken taken' taken'' nones nones' new (inr (last, inr (live, inr (inl some)))) busy takes =
+busy_on run run' held held' taken taken' taken'' nones nones' new
+    (inr (last, inr (live, inr (inl some)))) busy takes =
     inr (live, inr (inl some))
-busy_on run run' held held' taken taken' taken'' nones nones' new (inr (last, inr (live, inr (inr more)))) busy takes =
+busy_on run run' held held' taken taken' taken'' nones nones' new
+    (inr (last, inr (live, inr (inr more)))) busy takes =
     inr (live, inr (inr (omega (arith, more, ap length takes, length-append taken' new))))
 
 pub was_busy : (run : RunSoFar) (held taken taken' : List Entry) → WasBusy run held taken taken'
@@ -127,4 +131,8 @@ was_busy run held taken taken' (inl owes) = inl owes
 was_busy run held taken taken' (inr (live, inl fired)) = inr (live, inl fired)
 was_busy run held taken taken' (inr (live, inr (inl some))) = inr (live, inr (inl some))
 was_busy run held taken taken' (inr (live, inr (inr more))) =
-    inr (live, inr (inr (λ is. let same : length taken' ≡ length taken = ap length is in absurd (omega (arith, more, same)))))
+    inr (
+      live,
+      inr (inr (λ is.
+          let same : length taken' ≡ length taken = ap length is in absurd (omega (arith, more, same)))),
+    )

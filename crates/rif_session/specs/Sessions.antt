@@ -1,8 +1,9 @@
 -- A session that many clients feed.
---     batches_so_far run       the batches that have entered a run: those that are done, and the one whose act is owed
+--     batches_so_far run       the batches that have entered a run: those that are done, and the one whose act is
+--                              owed
 --     ends_disposed batches    the last entry of all of them is a Dispose
---     AreFrontOfRun sys bs     the batches may be the first ones of a run: all that is asked of those of a run, but that
---                              the last turn doesn't fire
+--     AreFrontOfRun sys bs     the batches may be the first ones of a run: all that is asked of those of a run, but
+--                              that the last turn doesn't fire
 -- Source: the project's own (docs/PROFILE.md, "Batches" and "Turns").
 use Rattle.std.specs.Prelude.{◌≡◌, Bool, false, List, [], ◌∷◌, ◌++◌}
 use Rattle.session_states.specs.declared.item.Entry.{Entry}

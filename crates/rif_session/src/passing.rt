@@ -9,10 +9,7 @@ ghost use Rattle.rif_session.specs.declared.passing.Rest.TheVariants.{Nothing};
 use crate::gate::Gate;
 use crate::named::Named;
 use crate::session_core::Core;
-use prd_relation::laws::{
-    a_dispose_disposes, a_firing_disposes_of_nothing, a_session_is_disposed_by_a_dispose,
-    turns_stop_where_they_must,
-};
+use prd_relation::laws::{a_firing_disposes_of_nothing, turns_stop_where_they_must};
 use prop_list::Propagation;
 use rif_values::OutOfMemory;
 use session_states::{Act, State};
@@ -27,12 +24,12 @@ pub enum Rest {
     Acted(Act),
 }
 
-/// Settles the act that is owed, and then takes batches from the list and settles their acts, until the first act that
-/// isn't Fired; answers that act, or that there was nothing to do. It waits where the list does.
+/// Settles the act that is owed, and then takes batches from the list and settles their acts, until the first act
+/// that isn't Fired; answers that act, or that there was nothing to do. It waits where the list does.
 ///
 /// A batch is what `next` gives until None, 1,024 entries, a Halt or a Dispose; room for each entry is made before it
-/// is taken. Before each turn is added the gate is told. Where an act disposes, the list is shut. After want of memory
-/// what was taken is kept, and a later pass goes on.
+/// is taken. Before each turn is added the gate is told. Where an act disposes, the list is shut. After want of
+/// memory what was taken is kept, and a later pass goes on.
 ///
 /// The cost grows with the entries that are taken and with the firings, as `Engine::take_batch` and `Engine::act` do;
 /// beside these it is constant.

@@ -1,4 +1,5 @@
-ghost use Rattle.std.specs.Prelude.{◌≡◌, ◌≢◌, ◌⊎◌, ◌+◌, [], false, length, true, IfOk, IsTrue, None, OnErr, OnOk, Some};
+ghost use Rattle.std.specs.Prelude.{◌≡◌, ◌≢◌, ◌⊎◌, ◌+◌, [], false, length, true, None, Some};
+ghost use Rattle.std.specs.Prelude.{IfOk, IsTrue, OnErr, OnOk};
 ghost use Rattle.std.proofs.Props.{props};
 ghost use Rattle.std.specs.Coded.{Coded-set};
 ghost use Rattle.std.specs.Option.{is_some};
@@ -29,8 +30,8 @@ use std::sync::Wait;
 
 /// What stands behind a session's lock: the engine, the list's taker, and the entries that were taken for the next
 /// batch. It keeps that the batches that entered the engine, joined, and then the entries held are exactly what the
-/// taker has taken; that they are the first batches of a run; and that the taker has shut the list only where the last
-/// one ends in a Dispose.
+/// taker has taken; that they are the first batches of a run; and that the taker has shut the list only where the
+/// last one ends in a Dispose.
 pub struct Core<L: Propagation, N: Named> {
     alloc: Global,
     pub(crate) engine: Engine,
@@ -63,8 +64,8 @@ impl<L: Propagation, N: Named> Core<L, N> {
         }
     }
 
-    /// Settles the act that is owed, and answers it. Where it disposes, the list is shut. After want of memory the act
-    /// is still owed.
+    /// Settles the act that is owed, and answers it. Where it disposes, the list is shut. After want of memory the
+    /// act is still owed.
     ///
     /// It costs what `Engine::act` costs.
     pub(crate) fn settle(&mut self, list: &L) -> Result<Act, OutOfMemory>
@@ -74,7 +75,8 @@ impl<L: Propagation, N: Named> Core<L, N> {
         ensures act { IfOk result (λ act. last_act_of self.new.engine ≡ Some act) }
         ensures err { OnErr result (self.new.engine ≡ self.old.engine) }
         ensures held { self.new.held ≡ self.old.held }
-        ensures same { (L.taken self.new.taker ≡ L.taken self.old.taker) × (L.nones self.new.taker ≡ L.nones self.old.taker) }
+        ensures same { (L.taken self.new.taker ≡ L.taken self.old.taker)
+            × (L.nones self.new.taker ≡ L.nones self.old.taker) }
         ensures shut { IfOk result (λ act. act ≡ DisposedAct → L.has_shut self.new.taker ≡ true) }
     {
         a_dispose_disposes();

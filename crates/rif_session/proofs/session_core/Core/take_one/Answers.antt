@@ -9,7 +9,8 @@ invariant_of-self-in-Some-clause-same g c =
     let core = c.args.self.now in
     held_more (batches_so_far core.engine) core.held.entries c.add.new.self.entries (g.L.Propagation.taken core.taker)
     (g.L.Propagation.taken c.next.new.taker) (c.in-Some.entry ∷ []) core.same c.in-Some.ensures.entry.0
-    (ok_of _ c.add.result (c.add.ensures.takes.1 (ap takes_more c.reserve.ensures.entries ∙ c.requires.takes)) c.add.ensures.ok
+    (ok_of _ c.add.result (c.add.ensures.takes.1 (ap takes_more c.reserve.ensures.entries ∙ c.requires.takes))
+    c.add.ensures.ok
     ∙ ap (λ es. es ++ c.in-Some.entry ∷ []) c.reserve.ensures.entries)
 
 pub invariant_of-self-in-Some-clause-free : goal.invariant_of-self-in-Some-clause-free
