@@ -1,2 +1,4 @@
 pub mod Lists
 pub mod Tallies
+pub mod SegSeats
+pub mod SegViews
