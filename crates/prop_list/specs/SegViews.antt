@@ -1,4 +1,4 @@
--- What holds of a queue of entries between any two steps. No public clause cites this module.
+-- What holds of a queue of entries between any two steps.
 --     client_in, taker_in          the client's view, or the taker's, that this is
 --     total f views                the sum of f over all clients' views, those that the taker keeps too
 --     FitsLog, Stands, Holds       what is so of a client's view; of the queue and all views; that it is so
@@ -32,7 +32,8 @@ abbrev pub pushes : ClientView → ℕ
 pushes client = length client.accepted
 
 -- of a client's view, where these are all entries so far
-pub record FitsLog (log : List Entry) (place : ℕ → ℕ × ℕ) (seated : ℕ) (at : ℕ × ℕ) (client : ClientView) : Type 0 where
+pub record FitsLog (log : List Entry) (place : ℕ → ℕ × ℕ) (seated : ℕ) (at : ℕ × ℕ) (client : ClientView)
+    : Type 0 where
   pub placed : place client.client ≡ at
   pub numbered : client.client < seated
   pub accepted : client.accepted ≡ entries_of client.client log

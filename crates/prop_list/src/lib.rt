@@ -3,7 +3,7 @@
 //! | File | Has | Its words |
 //! |---|---|---|
 //! | `propagation.rt` | `Propagation`, what every form of the list does and promises | `specs/Lists.antt` |
-//! | `seg.rt` | `seg::List`, the form over an unbounded queue | `specs/SegSeats.antt` |
+//! | `seg.rt` | `seg::List`, the form over an unbounded queue | `specs/SegSeats.antt`, `specs/SegViews.antt` |
 //! | `tally.rt` | `Tally`, a number that contracts see alone | `specs/Tallies.antt` |
 //!
 //! Begin at `Propagation`.

@@ -8,7 +8,8 @@ use std::sync::Wait;
 
 impl Propagation for List {
     ghost use Rattle.prop_list.specs.Lists.{Tells, count_of, entries_of};
-    ghost use Rattle.prop_list.specs.SegSeats.{accepted_by, client_of, id_of, id_of_seat, id_of_taker, is_shut_by, nones_of, refusal_of, taken_by};
+    ghost use Rattle.prop_list.specs.SegSeats.{accepted_by, client_of, id_of, id_of_seat, id_of_taker};
+    ghost use Rattle.prop_list.specs.SegSeats.{is_shut_by, nones_of, refusal_of, taken_by};
     ghost use Rattle.prop_list.specs.declared.propagation.PushFault.TheVariants.{OutOfMemory};
     ghost use Rattle.std.specs.List.{AllByRecursion, sum_by};
     ghost use Rattle.std.specs.Prelude.{◌≡◌, ◌+◌, ◌<◌, ◌++◌, true, false, length, IfErr, IfOk, IfSome, OnOk};
@@ -90,6 +91,7 @@ impl Propagation for List {
         false
     }
 
+    /// In constant time, with no memory: it tells the taker alone, since a queue isn't shut.
     fn shut(&self, taker: &mut Taker) {
         taker.has_shut = true;
     }

@@ -1,8 +1,8 @@
 //! A new list.
 ghost use Rattle.crossbeam_queue.specs.SegTies.{IsSegPassOf};
-ghost use Rattle.prop_list.specs.SegSeats.{accepted_by, client_of, id_of, id_of_seat, id_of_taker, is_shut_by, list_id, nones_of, taken_by};
+ghost use Rattle.prop_list.specs.SegSeats.{accepted_by, client_of, id_of, id_of_seat, id_of_taker};
+ghost use Rattle.prop_list.specs.SegSeats.{is_shut_by, list_id, nones_of, taken_by};
 ghost use Rattle.prop_list.specs.SegViews.{seated_taker};
-ghost use Rattle.prop_list.specs.declared.seg.views.View.TheVariants.{Taker as TakerOf};
 ghost use Rattle.std.specs.List.{AllByRecursion, range_with_len};
 ghost use Rattle.std.specs.Prelude.{◌≡◌, ◌≤◌, ◌<◌, [], IfOk, None, false, length, map, vec_capacity, vec_len};
 
@@ -13,7 +13,8 @@ use rif_values::OutOfMemory;
 use std::alloc::Global;
 
 impl List {
-    ghost use Rattle.prop_list.specs.SegSeats.{accepted_by, client_of, id_of, id_of_seat, id_of_taker, is_shut_by, nones_of, taken_by};
+    ghost use Rattle.prop_list.specs.SegSeats.{accepted_by, client_of, id_of, id_of_seat, id_of_taker};
+    ghost use Rattle.prop_list.specs.SegSeats.{is_shut_by, nones_of, taken_by};
     ghost use Rattle.std.specs.List.{AllByRecursion, range_with_len};
     ghost use Rattle.std.specs.Prelude.{◌≡◌, ◌≤◌, [], IfOk, None, false, length, map};
 
