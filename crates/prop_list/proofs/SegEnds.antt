@@ -52,7 +52,7 @@ pub pushed_by_one_more : (seats : List Seat) (at : ℕ) (seat : Seat) → at < l
 pushed_by_one_more [] at seat below is = absurd (omega arith)
 pushed_by_one_more (first ∷ seats) zero seat below is =
     let same : length (view_of seat).accepted ≡ length (view_of first).accepted
-        = ap (λ (s : Seat). length (view_of s).accepted) is in omega arith
+    = ap (λ (s : Seat). length (view_of s).accepted) is in omega arith
 pushed_by_one_more (first ∷ seats) (suc at) seat below is =
     let more = pushed_by_one_more seats at seat (omega arith) is in
     let next : suc at + 1 ≡ suc (at + 1) = omega arith in rw next (omega arith)
@@ -85,11 +85,12 @@ onto_all : (P : ClientView → Type 0) (clients : List ClientView) (seats : List
     → ((at : ℕ) (client : ClientView) → get_elem? (joined_onto clients seats) at ≡ some client → P client)
     → AllByRecursion (λ seat. P (view_of seat)) seats
 onto_all P clients [] each = tt
-onto_all P clients (seat ∷ seats) each =
-    (each (length (joined_onto clients seats)) (view_of seat)
-        (at_last (joined_onto clients seats) (view_of seat) (length (joined_onto clients seats)) refl),
-    onto_all P clients seats
-        (λ at client found. each at client (at_longer (joined_onto clients seats) (view_of seat ∷ []) at client found)))
+onto_all P clients (seat ∷ seats) each = (
+  each (length (joined_onto clients seats)) (view_of seat)
+      (at_last (joined_onto clients seats) (view_of seat) (length (joined_onto clients seats)) refl),
+  onto_all P clients seats
+      (λ at client found. each at client (at_longer (joined_onto clients seats) (view_of seat ∷ []) at client found)),
+)
 
 pub onto_empty : (clients joined : List ClientView) (seats : List Seat) → length clients ≡ 0
     → joined ≡ joined_onto clients seats → joined ≡ joined_onto [] seats
@@ -103,22 +104,22 @@ pub all_left : (taker : TakerView) (taken left : List Entry) (seats : List Seat)
 all_left taker taken left seats settled joined is =
     let whole : taker.taken ++ [] ≡ taken ++ left = append-nil taker.taken ∙ is in
     all_become
-        (λ seat. (view_of seat).accepted ≡ entries_of (view_of seat).client (taken ++ left))
-        (λ seat. (view_of seat).accepted ≡ entries_of seat.client (taken ++ left)) seats
-        (λ seat so. so ∙ ap (λ (client : ℕ). entries_of client (taken ++ left)) seat.own.0)
-        (onto_all (λ client. client.accepted ≡ entries_of client.client (taken ++ left)) [] seats
-            (λ at client found.
-                settled.each at client (ap (λ (l : List ClientView). get_elem? l at) joined ∙ found)
-                ∙ ap (entries_of client.client) whole))
+    (λ seat. (view_of seat).accepted ≡ entries_of (view_of seat).client (taken ++ left))
+    (λ seat. (view_of seat).accepted ≡ entries_of seat.client (taken ++ left)) seats
+    (λ seat so. so ∙ ap (λ (client : ℕ). entries_of client (taken ++ left)) seat.own.0)
+    (onto_all (λ client. client.accepted ≡ entries_of client.client (taken ++ left)) [] seats
+    (λ at client found.
+    settled.each at client (ap (λ (l : List ClientView). get_elem? l at) joined ∙ found)
+    ∙ ap (entries_of client.client) whole))
 
 pub all_named : (taker : TakerView) (taken left : List Entry) (seats : ℕ) → Settled taker []
     → taker.taken ≡ taken ++ left → taker.seated ≡ seats
     → AllByRecursion (λ entry. entry.client < seats) (taken ++ left)
 all_named taker taken left seats settled is same =
     all_at (λ entry. entry.client < seats) (taken ++ left) (λ at entry found.
-        let below = settled.named at entry
-            (ap (λ (l : List Entry). get_elem? l at) (append-nil taker.taken ∙ is) ∙ found) in
-        omega arith)
+    let below = settled.named at entry
+    (ap (λ (l : List Entry). get_elem? l at) (append-nil taker.taken ∙ is) ∙ found) in
+    omega arith)
 
 -- a new list's seats
 

@@ -3,8 +3,8 @@
 --     seat_owed, join_owed                 where a seat is made, and where one is given back
 use Rattle.std.proofs.Common.{◌≡◌, ℕ, zero, suc, ◌+◌, ◌<◌, ◌≤◌, ◌≢◌, ◌⊎◌, Bool, true, false, List, [], ◌∷◌, ◌++◌}
 use Rattle.std.proofs.Common.{length, set, refl, sym, ap, subst, ◌∙◌, arith, inl, inr, ⊎_elim, if◌then◌else◌, ◌==◌}
-use Rattle.std.proofs.Common.{append_assoc, append-nil, length-append, eqb, eq-eqb, ne_eqb}
-use mathlib.Core.Option.{none, some, some-injective, some-ne-none}
+use Rattle.std.proofs.Common.{append_assoc, append-nil, length-append, eq-eqb, ne_eqb}
+use mathlib.Core.Option.{some, some-injective, some-ne-none}
 use lib.ListN.{get_elem?}
 use Rattle.atomic_table.proofs.Lists.{at_set, set_here, set_else, at_longer}
 use Rattle.crossbeam_queue.specs.Fifo.{Pushes, Pops, Forks, Merges, Learns as LearnsOf}
@@ -56,7 +56,7 @@ clients_after : (P : ℕ → ClientView → Type 0) (views : List View) (id : �
     → (at : ℕ) (client : ClientView) → get_elem? (set views id (Client new)) at ≡ some (Client client) → P at client
 clients_after P views id new here others at client found = ⊎_elim
     (λ it. let same : new ≡ client = same_client new client (ap some it.1) in
-        subst (λ (x : ClientView). P at x) same (subst (λ (k : ℕ). P k new) (sym it.0) here))
+    subst (λ (x : ClientView). P at x) same (subst (λ (k : ℕ). P k new) (sym it.0) here))
     (λ it. others at client it.0 it.1)
     (at_set views id at (Client new) (Client client) found)
 
@@ -121,7 +121,7 @@ total_of_joined f (view ∷ views) taker first all =
     let is : view ≡ Taker taker = some-injective view (Taker taker) first in
     let own : sum_within f view ≡ sum_over f taker.joined = ap (sum_within f) is in
     let count : sum_within (λ client. 1) view ≡ sum_over (λ client. 1) taker.joined
-        = ap (sum_within (λ client. 1)) is in
+    = ap (sum_within (λ client. 1)) is in
     let ones = sum_of_ones taker.joined in
     let others = total_of_none f views (omega arith) in omega arith
 
@@ -152,7 +152,7 @@ entries_of_new client [] below = refl
 entries_of_new client (entry ∷ entries) below =
     let first : entry.client < client = below 0 entry refl in
     rw (ne_eqb entry.client client (omega arith))
-        (entries_of_new client entries (λ at other found. below (suc at) other found))
+    (entries_of_new client entries (λ at other found. below (suc at) other found))
 
 -- where the views are
 
@@ -178,14 +178,18 @@ still_fits fits placed' more same = record {
 -- the steps
 
 pub opens : Holds [] (Taker new_taker ∷ [])
-opens = ((λ client. (0, 0)), new_taker, record {
-  first = refl;
-  count = refl;
-  seats = refl;
-  named = λ at entry found. absurd (some-ne-none entry (sym found));
-  live = one;
-  joined = λ at client found. absurd (some-ne-none client (sym found));
-}) where
+opens = (
+  (λ client. (0, 0)),
+  new_taker,
+  record {
+    first = refl;
+    count = refl;
+    seats = refl;
+    named = λ at entry found. absurd (some-ne-none entry (sym found));
+    live = one;
+    joined = λ at client found. absurd (some-ne-none client (sym found));
+  },
+) where
   one : (at : ℕ) (client : ClientView) → get_elem? (Taker new_taker ∷ []) at ≡ some (Client client)
       → FitsLog [] (λ client. (0, 0)) 0 (at, 0) client
   one zero client found = cc
@@ -200,14 +204,14 @@ push_stands {place = place} {taker = taker} {queued = queued} {views = views} id
     let new : ClientView = record { client = client.client; accepted = client.accepted ++ entry ∷ [] } in
     let log : List Entry = taker.taken ++ queued in
     let longer : taker.taken ++ (queued ++ entry ∷ []) ≡ log ++ entry ∷ []
-        = sym (append_assoc taker.taken queued (entry ∷ [])) in
+    = sym (append_assoc taker.taken queued (entry ∷ [])) in
     let each : (n : ℕ) → entries_of n (taker.taken ++ (queued ++ entry ∷ []))
-            ≡ entries_of n log ++ entries_of n (entry ∷ [])
-        = λ n. ap (entries_of n) longer ∙ entries_append n log (entry ∷ []) in
+    ≡ entries_of n log ++ entries_of n (entry ∷ [])
+    = λ n. ap (entries_of n) longer ∙ entries_append n log (entry ∷ []) in
     let others : (n : ℕ) → n ≢ client.client
-            → entries_of n (taker.taken ++ (queued ++ entry ∷ [])) ≡ entries_of n log
-        = λ n apart. each n ∙ (ap (λ (more : List Entry). entries_of n log ++ more)
-            (entries_else n entry (λ same. apart (sym same ∙ own))) ∙ append-nil (entries_of n log)) in
+    → entries_of n (taker.taken ++ (queued ++ entry ∷ [])) ≡ entries_of n log
+    = λ n apart. each n ∙ (ap (λ (more : List Entry). entries_of n log ++ more)
+    (entries_else n entry (λ same. apart (sym same ∙ own))) ∙ append-nil (entries_of n log)) in
     record {
       first = set_else views id 0 (Client new) (taker_apart views 0 id taker client stands.first found)
           ∙ stands.first;
@@ -234,11 +238,11 @@ push_stands {place = place} {taker = taker} {queued = queued} {views = views} id
                 ∙ ap (λ (l : List Entry). l ++ entry ∷ []) (sym fits.accepted)));
           })
           (λ at other apart there. let it = stands.live at other there in still_fits it it.placed (omega arith)
-              (others other.client (λ same. apart
-                  (ap (λ (x : ℕ × ℕ). x.0) (sym it.placed ∙ (ap place same ∙ fits.placed))))));
+          (others other.client (λ same. apart
+          (ap (λ (x : ℕ × ℕ). x.0) (sym it.placed ∙ (ap place same ∙ fits.placed))))));
       joined = λ at other there. let it = stands.joined at other there in still_fits it it.placed (omega arith)
           (others other.client (λ same. taker_apart views 0 id taker client stands.first found
-              (ap (λ (x : ℕ × ℕ). x.0) (sym it.placed ∙ (ap place same ∙ fits.placed)))));
+          (ap (λ (x : ℕ × ℕ). x.0) (sym it.placed ∙ (ap place same ∙ fits.placed)))));
     }
 
 settles : (place : ℕ → ℕ × ℕ) (taker : TakerView) (queued : List Entry) (views : List View)
@@ -255,7 +259,7 @@ take_stands : {place : ℕ → ℕ × ℕ} {taker : TakerView} {queued : List En
 take_stands {place = place} {taker = taker} {queued = queued} {views = views} entry stands =
     let new : TakerView = taker_in (after_take entry (Taker taker)) in
     let same : (taker.taken ++ entry ∷ []) ++ queued ≡ taker.taken ++ entry ∷ queued
-        = append_assoc taker.taken (entry ∷ []) queued in
+    = append_assoc taker.taken (entry ∷ []) queued in
     record {
       first = set_here views 0 (Taker new) (found_below views 0 (Taker taker) stands.first);
       count =
@@ -275,14 +279,14 @@ take_stands {place = place} {taker = taker} {queued = queued} {views = views} en
 seat_stands : {place : ℕ → ℕ × ℕ} {taker : TakerView} {queued : List Entry} {views : List View}
     → Stands place taker queued views
     → Stands (placed place taker.seated (length views, 0)) (taker_in (after_seat (Taker taker))) queued
-        (set views 0 (after_seat (Taker taker)) ++ Client (new_client taker.seated) ∷ [])
+    (set views 0 (after_seat (Taker taker)) ++ Client (new_client taker.seated) ∷ [])
 seat_stands {place = place} {taker = taker} {queued = queued} {views = views} stands =
     let new : TakerView = taker_in (after_seat (Taker taker)) in
     let own : ClientView = new_client taker.seated in
     let front : List View = set views 0 (Taker new) in
     let long : length front ≡ length views = length_set views 0 (Taker new) in
     let still : (other : ℕ) → other < taker.seated → placed place taker.seated (length views, 0) other ≡ place other
-        = λ other below. placed_else place taker.seated other (length views, 0) (omega arith) in
+    = λ other below. placed_else place taker.seated other (length views, 0) (omega arith) in
     record {
       first = at_longer front (Client own ∷ []) 0 (Taker new)
           (set_here views 0 (Taker new) (found_below views 0 (Taker taker) stands.first));
@@ -297,15 +301,15 @@ seat_stands {place = place} {taker = taker} {queued = queued} {views = views} st
       named = λ at entry found. let below = stands.named at entry found in omega arith;
       live = λ at client found. ⊎_elim
           (λ old. let it = stands.live at client (clients_stay views new at client old) in
-              still_fits it (still client.client it.numbered ∙ it.placed) (omega arith) refl)
+          still_fits it (still client.client it.numbered ∙ it.placed) (omega arith) refl)
           (λ end. let same : own ≡ client = same_client own client (ap some end.1) in
-              subst (FitsLog (taker.taken ++ queued) (placed place taker.seated (length views, 0)) (taker.seated + 1)
-                  (at, 0)) same (record {
-                placed = placed_here place taker.seated (length views, 0)
-                    ∙ ap (λ (n : ℕ). (n, 0)) (sym (end.0 ∙ long));
-                numbered = omega arith;
-                accepted = sym (entries_of_new taker.seated (taker.taken ++ queued) stands.named);
-              }))
+          subst (FitsLog (taker.taken ++ queued) (placed place taker.seated (length views, 0)) (taker.seated + 1)
+          (at, 0)) same (record {
+            placed = placed_here place taker.seated (length views, 0)
+                ∙ ap (λ (n : ℕ). (n, 0)) (sym (end.0 ∙ long));
+            numbered = omega arith;
+            accepted = sym (entries_of_new taker.seated (taker.taken ++ queued) stands.named);
+          }))
           (found_in_longer front (Client own) (Client client) at found);
       joined = λ at client found. let it = stands.joined at client found in
           still_fits it (still client.client it.numbered ∙ it.placed) (omega arith) refl;
@@ -315,15 +319,15 @@ join_stands : {place : ℕ → ℕ × ℕ} {taker : TakerView} {queued : List En
     (other : ℕ) (client : ClientView) → Stands place taker queued views → other ≢ 0
     → get_elem? (set views 0 (after_join (Taker taker) (Client client))) other ≡ some (Client client)
     → Stands (placed place client.client (0, length taker.joined)) (taker_in (after_join (Taker taker) (Client client)))
-        queued (set (set views 0 (after_join (Taker taker) (Client client))) other Spent)
+    queued (set (set views 0 (after_join (Taker taker) (Client client))) other Spent)
 join_stands {place = place} {taker = taker} {queued = queued} {views = views} other client stands apart found =
     let new : TakerView = taker_in (after_join (Taker taker) (Client client)) in
     let front : List View = set views 0 (Taker new) in
     let fits = stands.live other client (clients_stay views new other client found) in
     let to : ℕ × ℕ = (0, length taker.joined) in
     let still : (n : ℕ) (at : ℕ × ℕ) → place n ≡ at → (at ≡ (other, 0) → ⊥) → placed place client.client to n ≡ at
-        = λ n at is else'. placed_else place client.client n to
-            (λ same. else' (sym is ∙ (ap place same ∙ fits.placed))) ∙ is in
+    = λ n at is else'. placed_else place client.client n to
+    (λ same. else' (sym is ∙ (ap place same ∙ fits.placed))) ∙ is in
     record {
       first = set_else front other 0 Spent (λ same. apart (sym same))
           ∙ set_here views 0 (Taker new) (found_below views 0 (Taker taker) stands.first);
@@ -341,18 +345,18 @@ join_stands {place = place} {taker = taker} {queued = queued} {views = views} ot
       live = λ at one there. ⊎_elim
           (λ it. let same : some Spent ≡ some (Client one) = ap some it.1 in cc)
           (λ it. let old = stands.live at one (clients_stay views new at one it.1) in
-              still_fits old (still one.client (at, 0) old.placed (λ same. it.0 (ap (λ (x : ℕ × ℕ). x.0) same)))
-                  (omega arith) refl)
+          still_fits old (still one.client (at, 0) old.placed (λ same. it.0 (ap (λ (x : ℕ × ℕ). x.0) same)))
+          (omega arith) refl)
           (at_set front other at Spent (Client one) there);
       joined = λ at one there. ⊎_elim
           (λ before. let old = stands.joined at one before in
-              still_fits old
-                  (still one.client (0, at) old.placed (λ same. apart (sym (ap (λ (x : ℕ × ℕ). x.0) same))))
-                  (omega arith) refl)
+          still_fits old
+          (still one.client (0, at) old.placed (λ same. apart (sym (ap (λ (x : ℕ × ℕ). x.0) same))))
+          (omega arith) refl)
           (λ end. subst (λ (x : ClientView). FitsLog (taker.taken ++ queued) (placed place client.client to)
-              taker.seated (0, at) x) end.1
-              (still_fits fits (placed_here place client.client to ∙ ap (λ (n : ℕ). (0, n)) (sym end.0))
-                  (omega arith) refl))
+          taker.seated (0, at) x) end.1
+          (still_fits fits (placed_here place client.client to ∙ ap (λ (n : ℕ). (0, n)) (sym end.0))
+          (omega arith) refl))
           (found_in_longer taker.joined client one at there);
     }
 
@@ -360,24 +364,33 @@ join_stands {place = place} {taker = taker} {queued = queued} {views = views} ot
 
 of_taker : (taker : TakerView) (queued : List Entry) (views : List View) → Holds queued views
     → get_elem? views 0 ≡ some (Taker taker) → (place : ℕ → ℕ × ℕ) × Stands place taker queued views
-of_taker taker queued views holds first = (holds.0,
-    subst (λ (one : TakerView). Stands holds.0 one queued views)
-        (same_taker holds.1 taker (sym holds.2.first ∙ first)) holds.2)
+of_taker taker queued views holds first = (
+  holds.0,
+  subst (λ (one : TakerView). Stands holds.0 one queued views)
+      (same_taker holds.1 taker (sym holds.2.first ∙ first)) holds.2,
+)
 
 pub push_owed : (most id : ℕ) (view : View) (entry : Entry) → is_client view ≡ true
     → entry.client ≡ (client_in view).client
     → Pushes Holds most id view entry (λ new. new ≡ after_push entry view)
-push_owed most id view entry is own queued views room holds found =
-    (after_push entry view,
-        (holds.0, holds.1, push_stands id (client_in view) entry holds.2 (found ∙ ap some (client_is view is)) own), refl)
+push_owed most id view entry is own queued views room holds found = (
+  after_push entry view,
+  (holds.0, holds.1, push_stands id (client_in view) entry holds.2 (found ∙ ap some (client_is view is)) own),
+  refl,
+)
 
 take_first : (view : View) → is_taker view ≡ true → Pops Holds 0 view (Takes view)
 take_first view is entry queued views holds found =
     let taker : TakerView = taker_in view in
     let it = of_taker taker (entry ∷ queued) views holds (found ∙ ap some (taker_is view is)) in
-    let settled = settles it.0 taker (entry ∷ queued) views it.1 in
-    (after_take entry view, (it.0, taker_in (after_take entry view), take_stands entry it.1), (refl,
-        λ all. let room = settled.room all in let lengths = length-append taker.taken (entry ∷ queued) in omega arith))
+    let settled = settles it.0 taker (entry ∷ queued) views it.1 in (
+      after_take entry view,
+      (it.0, taker_in (after_take entry view), take_stands entry it.1),
+      (
+        refl,
+        λ all. let room = settled.room all in let lengths = length-append taker.taken (entry ∷ queued) in omega arith,
+      ),
+    )
 
 pub take_owed : (id : ℕ) (view : View) → id ≡ 0 → is_taker view ≡ true → Pops Holds id view (Takes view)
 take_owed id view first is = rw first (take_first view is)
@@ -403,9 +416,11 @@ seat_owed id view first is = rw first (seat_first view is)
 join_first : (other : ℕ) (view theirs : View) → is_taker view ≡ true → is_client theirs ≡ true
     → Merges Holds 0 view other theirs (after_join view theirs) Spent
 join_first other view theirs is client queued views holds found apart there =
-    let it = of_taker (taker_in view) queued views holds (found ∙ ap some (taker_is view is)) in
-    (placed it.0 (client_in theirs).client (0, length (taker_in view).joined), taker_in (after_join view theirs),
-        join_stands other (client_in theirs) it.1 apart (there ∙ ap some (client_is theirs client)))
+    let it = of_taker (taker_in view) queued views holds (found ∙ ap some (taker_is view is)) in (
+      placed it.0 (client_in theirs).client (0, length (taker_in view).joined),
+      taker_in (after_join view theirs),
+      join_stands other (client_in theirs) it.1 apart (there ∙ ap some (client_is theirs client)),
+    )
 
 pub join_owed : (id other : ℕ) (view theirs : View) → id ≡ 0 → is_taker view ≡ true → is_client theirs ≡ true
     → Merges Holds id view other theirs (after_join view theirs) Spent

@@ -1,4 +1,4 @@
-use Rattle.std.proofs.Common.{◌≡◌, arith}
+use Rattle.std.proofs.Common.{arith}
 use Rattle.prop_list.proofs.SegEnds.{pushed_by_one_more}
 use Rattle.prop_list.proofs.seg.ending.pushed_by_all.Goals as goal
 

@@ -1,4 +1,4 @@
-use Rattle.std.proofs.Common.{◌≡◌, ℕ, refl, ap, ◌∙◌, arith, length-append}
+use Rattle.std.proofs.Common.{ℕ, refl, ap, ◌∙◌, arith, length-append}
 use Rattle.prop_list.specs.SegSeats.{list_id}
 use Rattle.prop_list.specs.SegViews.{after_seat, client_in, is_taker}
 use Rattle.prop_list.specs.declared.seg.seats.Seat.{Seat}

@@ -27,16 +27,16 @@ pub returns-clause-left : goal.returns-clause-left
 returns-clause-left g c =
     let joined = onto_empty _ _ c.args.seats.items c.args.taker.own.1 c.join_all.ensures.joined in
     all_left (taker_in c.drain.new.pass.me.view.client) (taker_in c.args.taker.pass.me.view.client).taken
-        c.drain.new.left.items c.args.seats.items c.drain.ensures.settled (c.drain.ensures.same.0 ∙ joined)
-        (rw c.join_all.ensures.same.0 at c.drain.ensures.left)
+    c.drain.new.left.items c.args.seats.items c.drain.ensures.settled (c.drain.ensures.same.0 ∙ joined)
+    (rw c.join_all.ensures.same.0 at c.drain.ensures.left)
 
 pub returns-clause-named : goal.returns-clause-named
 returns-clause-named g c =
     all_named (taker_in c.drain.new.pass.me.view.client) (taker_in c.args.taker.pass.me.view.client).taken
-        c.drain.new.left.items c.args.self.seats c.drain.ensures.settled
-        (rw c.join_all.ensures.same.0 at c.drain.ensures.left)
-        (c.drain.ensures.same.1 ∙ (c.join_all.ensures.same.1
-            ∙ (c.args.taker.own.2 ∙ ap (λ (id : ListId). id.seats) c.requires.taker)))
+    c.drain.new.left.items c.args.self.seats c.drain.ensures.settled
+    (rw c.join_all.ensures.same.0 at c.drain.ensures.left)
+    (c.drain.ensures.same.1 ∙ (c.join_all.ensures.same.1
+    ∙ (c.args.taker.own.2 ∙ ap (λ (id : ListId). id.seats) c.requires.taker)))
 
 pub returns-clause-refused : goal.returns-clause-refused
 returns-clause-refused g c = all_of_any _ c.args.seats.items (λ seat. tt)
