@@ -89,12 +89,14 @@ onto_all P clients (seat ∷ seats) each = (
   each (length (joined_onto clients seats)) (view_of seat)
       (at_last (joined_onto clients seats) (view_of seat) (length (joined_onto clients seats)) refl),
   onto_all P clients seats
-      (λ at client found. each at client (at_longer (joined_onto clients seats) (view_of seat ∷ []) at client found)),
+      (λ at client found. each at client
+      (at_longer (joined_onto clients seats) (view_of seat ∷ []) at client found)),
 )
 
 pub onto_empty : (clients joined : List ClientView) (seats : List Seat) → length clients ≡ 0
     → joined ≡ joined_onto clients seats → joined ≡ joined_onto [] seats
-onto_empty clients joined seats none is = is ∙ ap (λ (l : List ClientView). joined_onto l seats) (empty_of clients none)
+onto_empty clients joined seats none is =
+    is ∙ ap (λ (l : List ClientView). joined_onto l seats) (empty_of clients none)
 
 -- the end
 

@@ -10,7 +10,8 @@ use Rattle.atomic_table.proofs.Lists.{at_set, set_here, set_else, at_longer}
 use Rattle.crossbeam_queue.specs.Fifo.{Pushes, Pops, Forks, Merges, Learns as LearnsOf}
 use Rattle.session_states.specs.declared.item.Entry.{Entry}
 use Rattle.prop_list.specs.Lists.{entries_of}
-use Rattle.prop_list.specs.SegViews.{FitsLog, Stands, Holds, Settled, Learns, Takes, sum_over, sum_within, total, pushes}
+use Rattle.prop_list.specs.SegViews.{FitsLog, Stands, Holds, Settled, Learns, Takes}
+use Rattle.prop_list.specs.SegViews.{sum_over, sum_within, total, pushes}
 use Rattle.prop_list.specs.SegViews.{after_push, after_take, after_seat, after_join}
 use Rattle.prop_list.specs.SegViews.{new_client, new_taker, client_in, taker_in, is_client, is_taker}
 use Rattle.prop_list.specs.declared.seg.views.ClientView.{ClientView}
@@ -114,8 +115,8 @@ total_of_none f (Taker taker ∷ views) none' =
 total_of_none f (Spent ∷ views) none' = let others = total_of_none f views (omega arith) in omega arith
 
 -- where all seats have joined, the taker's views are all
-total_of_joined : (f : ClientView → ℕ) (views : List View) (taker : TakerView) → get_elem? views 0 ≡ some (Taker taker)
-    → total (λ client. 1) views ≡ length taker.joined → total f views ≡ sum_over f taker.joined
+total_of_joined : (f : ClientView → ℕ) (views : List View) (taker : TakerView)
+    → get_elem? views 0 ≡ some (Taker taker) → total (λ client. 1) views ≡ length taker.joined → total f views ≡ sum_over f taker.joined
 total_of_joined f [] taker first all = absurd (some-ne-none (Taker taker) (sym first))
 total_of_joined f (view ∷ views) taker first all =
     let is : view ≡ Taker taker = some-injective view (Taker taker) first in
@@ -318,7 +319,8 @@ seat_stands {place = place} {taker = taker} {queued = queued} {views = views} st
 join_stands : {place : ℕ → ℕ × ℕ} {taker : TakerView} {queued : List Entry} {views : List View}
     (other : ℕ) (client : ClientView) → Stands place taker queued views → other ≢ 0
     → get_elem? (set views 0 (after_join (Taker taker) (Client client))) other ≡ some (Client client)
-    → Stands (placed place client.client (0, length taker.joined)) (taker_in (after_join (Taker taker) (Client client)))
+    → Stands (placed place client.client (0, length taker.joined))
+    (taker_in (after_join (Taker taker) (Client client)))
     queued (set (set views 0 (after_join (Taker taker) (Client client))) other Spent)
 join_stands {place = place} {taker = taker} {queued = queued} {views = views} other client stands apart found =
     let new : TakerView = taker_in (after_join (Taker taker) (Client client)) in
@@ -375,7 +377,11 @@ pub push_owed : (most id : ℕ) (view : View) (entry : Entry) → is_client view
     → Pushes Holds most id view entry (λ new. new ≡ after_push entry view)
 push_owed most id view entry is own queued views room holds found = (
   after_push entry view,
-  (holds.0, holds.1, push_stands id (client_in view) entry holds.2 (found ∙ ap some (client_is view is)) own),
+  (
+    holds.0,
+    holds.1,
+    push_stands id (client_in view) entry holds.2 (found ∙ ap some (client_is view is)) own,
+  ),
   refl,
 )
 
@@ -388,7 +394,8 @@ take_first view is entry queued views holds found =
       (it.0, taker_in (after_take entry view), take_stands entry it.1),
       (
         refl,
-        λ all. let room = settled.room all in let lengths = length-append taker.taken (entry ∷ queued) in omega arith,
+        λ all. let room = settled.room all in
+            let lengths = length-append taker.taken (entry ∷ queued) in omega arith,
       ),
     )
 

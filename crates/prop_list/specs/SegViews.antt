@@ -43,7 +43,8 @@ pub record Stands (place : ℕ → ℕ × ℕ) (taker : TakerView) (queued : Lis
   pub first : get_elem? views 0 ≡ some (Taker taker)
   pub count : total pushes views ≡ length (taker.taken ++ queued)
   pub seats : total (λ client. 1) views ≡ taker.seated
-  pub named : (at : ℕ) (entry : Entry) → get_elem? (taker.taken ++ queued) at ≡ some entry → entry.client < taker.seated
+  pub named : (at : ℕ) (entry : Entry) → get_elem? (taker.taken ++ queued) at ≡ some entry
+      → entry.client < taker.seated
   pub live : (at : ℕ) (client : ClientView) → get_elem? views at ≡ some (Client client)
       → FitsLog (taker.taken ++ queued) place taker.seated (at, 0) client
   pub joined : (at : ℕ) (client : ClientView) → get_elem? taker.joined at ≡ some client
@@ -97,7 +98,8 @@ after_join view other = Taker (record (taker_in view) { joined = (taker_in view)
 pub record Settled (taker : TakerView) (queued : List Entry) : Type 0 where
   pub each : (at : ℕ) (client : ClientView) → get_elem? taker.joined at ≡ some client
       → client.accepted ≡ entries_of client.client (taker.taken ++ queued)
-  pub named : (at : ℕ) (entry : Entry) → get_elem? (taker.taken ++ queued) at ≡ some entry → entry.client < taker.seated
+  pub named : (at : ℕ) (entry : Entry) → get_elem? (taker.taken ++ queued) at ≡ some entry
+      → entry.client < taker.seated
   pub room : length taker.joined ≡ taker.seated → length (taker.taken ++ queued) ≡ sum_over pushes taker.joined
 
 abbrev pub Learns : View → List Entry → Type 0

@@ -18,8 +18,8 @@ impl List {
     ghost use Rattle.std.specs.List.{AllByRecursion, range_with_len};
     ghost use Rattle.std.specs.Prelude.{◌≡◌, ◌≤◌, [], IfOk, None, false, length, map};
 
-    /// A new list, its taker, and as many seats, one for each client, the clients numbered from 0. It takes memory for
-    /// the seats and for a queue's first block.
+    /// A new list, its taker, and as many seats, one for each client, the clients numbered from 0. It takes memory
+    /// for the seats and for a queue's first block.
     pub fn new(alloc: Global, seats: u32) -> Result<(List, Taker, Vec<Seat>), OutOfMemory>
         requires { 1 ≤ seats }
         ensures list { IfOk result (λ made. ((id_of made.0).seats ≡ seats) × ((id_of made.0).capacity ≡ None)) }
