@@ -1,0 +1,2 @@
+pub mod SegEnds
+pub mod SegSteps

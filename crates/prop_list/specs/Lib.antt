@@ -1,2 +1,5 @@
 pub mod Lists
 pub mod Tallies
+pub mod SegEnds
+pub mod SegSeats
+pub mod SegViews
