@@ -116,7 +116,8 @@ total_of_none f (Spent ∷ views) none' = let others = total_of_none f views (om
 
 -- where all seats have joined, the taker's views are all
 total_of_joined : (f : ClientView → ℕ) (views : List View) (taker : TakerView)
-    → get_elem? views 0 ≡ some (Taker taker) → total (λ client. 1) views ≡ length taker.joined → total f views ≡ sum_over f taker.joined
+    → get_elem? views 0 ≡ some (Taker taker) → total (λ client. 1) views ≡ length taker.joined
+    → total f views ≡ sum_over f taker.joined
 total_of_joined f [] taker first all = absurd (some-ne-none (Taker taker) (sym first))
 total_of_joined f (view ∷ views) taker first all =
     let is : view ≡ Taker taker = some-injective view (Taker taker) first in
