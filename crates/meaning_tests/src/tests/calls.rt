@@ -1,16 +1,13 @@
 //! Each call on small values that were worked by hand.
-ghost use Rattle.std.specs.Prelude.{◌≡◌, IfOk, Some};
-
 use crate::reading::{changes_of, doc_of, facts_of};
 use crate::showing::{delta_text, facts_text, history_text, show_facts, show_row};
 use prd_relation::{Plain, choose_plain};
-use rif_facts::{Facts, Key, Room};
+use rif_facts::{Facts, Key};
 use rif_match::{list_instances, matches};
 use rif_refusals::Fault;
 use rif_values::{Binding, Const, OutOfMemory, Text};
 use safe_rules::SafeDoc;
 use std::alloc::Global;
-use std::process::Abort;
 use std::test::Fail;
 
 /// Changes that lead to the state of the tests below, one of them done twice.
@@ -19,13 +16,11 @@ static STATE: &str = "a assert _y # _C\na assert _x[_s->_b]\na assert _x # _C\n\
 
 #[test]
 fn a_state_has_its_facts_in_order_each_once(rt: HostRuntime) -> Result<(), Fail> {
-    let state = facts_of(rt.alloc(), STATE)?.copy(rt.alloc())?;
+    let alloc = rt.alloc();
+    let state = facts_of(alloc, STATE)?;
+    let shown = facts_text(alloc, &state.copy(alloc)?)?;
     let wanted = "_p(_x) _x[_s->_a] _x[_s->_b] _x # _C _y # _C ";
-    shows(&rt, &facts_text(rt.alloc(), &state)?, wanted, "the state")
-}
-
-fn shows(rt: &impl Abort, shown: &Vec<u8>, wanted: &str, of: &str) -> Result<(), Fail> {
-    assert_eq!(rt; str::from_utf8(shown.as_slice())?, wanted, "{of}");
+    assert_eq!(rt; str::from_utf8(shown.as_slice())?, wanted);
     Ok(())
 }
 
@@ -43,44 +38,23 @@ static CHANGES: &[(&str, &str)] = &[
 
 #[test]
 fn a_change_removes_and_adds_facts(rt: HostRuntime) -> Result<(), Fail> {
+    let alloc = rt.alloc();
     for (change, wanted) in CHANGES {
-        let line = format!(in rt.alloc(); "a {change}\n")?;
-        shows(&rt, &planned(rt.alloc(), line.as_str())?, wanted, change)?;
-        let (net, state) = done(rt.alloc(), line.as_str())?;
-        shows(&rt, &net, wanted, change)?;
-        let after = state_behind(rt.alloc(), line.as_str())?;
-        are_alike(&rt, rt.alloc(), &state, &after)?;
+        let mut state = facts_of(alloc, STATE)?;
+        let line = format!(in alloc; "a {change}")?;
+        let changes = changes_of(alloc, line.as_str())?;
+        let planned = delta_text(alloc, &state.delta(alloc, changes.as_slice())?)?;
+        assert_eq!(rt; str::from_utf8(planned.as_slice())?, *wanted, "{change}");
+        let done = delta_text(alloc, &state.apply(alloc, changes.as_slice())?)?;
+        assert_eq!(rt; str::from_utf8(done.as_slice())?, *wanted, "{change}");
+        let after = facts_of(alloc, format!(in alloc; "{STATE}{line}\n")?.as_str())?;
+        assert_eq!(rt; state.len(), after.len(), "{change}");
+        assert_eq!(rt;
+            facts_text(alloc, &state)?.as_slice(),
+            facts_text(alloc, &after)?.as_slice(),
+            "{change}"
+        );
     }
-    Ok(())
-}
-
-// The net change that a line would make.
-fn planned(alloc: Global, line: &str) -> Result<Vec<u8>, Fault> {
-    let state = facts_of(alloc, STATE)?;
-    let changes = changes_of(alloc, line)?;
-    let delta = state.delta(alloc, changes.as_slice())?;
-    Ok(delta_text(alloc, &delta)?)
-}
-
-// The net change that a line makes, and the state that it leads to.
-fn done(alloc: Global, line: &str) -> Result<(Vec<u8>, Facts), Fault> {
-    let mut state = facts_of(alloc, STATE)?;
-    let changes = changes_of(alloc, line)?;
-    let delta = state.apply(alloc, changes.as_slice())?;
-    Ok((delta_text(alloc, &delta)?, state))
-}
-
-// The state that all changes lead to, those of some lines last.
-fn state_behind(alloc: Global, lines: &str) -> Result<Facts, Fault> {
-    let script = format!(in alloc; "{STATE}{lines}")?;
-    facts_of(alloc, script.as_str())
-}
-
-fn are_alike(rt: &impl Abort, alloc: Global, one: &Facts, other: &Facts) -> Result<(), Fail> {
-    let shown = facts_text(alloc, one)?;
-    let wanted = facts_text(alloc, other)?;
-    assert_eq!(rt; shown.as_slice(), wanted.as_slice());
-    assert_eq!(rt; one.len(), other.len());
     Ok(())
 }
 
@@ -102,9 +76,11 @@ static KEYS: &[(&str, &str)] = &[
 
 #[test]
 fn keys_name_their_facts(rt: HostRuntime) -> Result<(), Fail> {
-    let state = facts_of(rt.alloc(), SHARED)?;
+    let alloc = rt.alloc();
+    let state = facts_of(alloc, SHARED)?;
     for (key, wanted) in KEYS {
-        shows(&rt, &named_by(rt.alloc(), &state, key)?, wanted, key)?;
+        let shown = named_by(alloc, &state, key)?;
+        assert_eq!(rt; str::from_utf8(shown.as_slice())?, *wanted, "{key}");
     }
     Ok(())
 }
@@ -129,31 +105,29 @@ fn key_of(key: &str, name: Const) -> Result<Key, OutOfMemory> {
     }
 }
 
-/// Changes that room is made for and that aren't done, and changes that are.
-static UNUSED: &str = "a assert _z # _C\n";
-
-static USED: &str = "a retract _x\na assert _w # _C\n";
-
 #[test]
 fn room_is_used_by_the_change_that_it_was_made_for(rt: HostRuntime) -> Result<(), Fail> {
-    let mut state = facts_of(rt.alloc(), STATE)?;
-    let before = facts_of(rt.alloc(), STATE)?;
-    room_for(rt.alloc(), &mut state, UNUSED)?;
-    are_alike(&rt, rt.alloc(), &state, &before)?;
-    let room = room_for(rt.alloc(), &mut state, USED)?;
-    are_alike(&rt, rt.alloc(), &state, &before)?;
+    let alloc = rt.alloc();
+    let mut state = facts_of(alloc, STATE)?;
+    let before = facts_text(alloc, &state)?;
+    let added = changes_of(alloc, "a assert _z # _C\n")?;
+    let unused = state.delta(alloc, added.as_slice())?;
+    state.reserve(alloc, &unused)?;
+    assert_eq!(rt; facts_text(alloc, &state)?.as_slice(), before.as_slice());
+    let moved = changes_of(alloc, "a retract _x\na assert _w # _C\n")?;
+    let delta = state.delta(alloc, moved.as_slice())?;
+    let room = state.reserve(alloc, &delta)?;
+    assert_eq!(rt; facts_text(alloc, &state)?.as_slice(), before.as_slice());
     state.commit(room);
-    let after = state_behind(rt.alloc(), USED)?;
-    are_alike(&rt, rt.alloc(), &state, &after)
-}
-
-// Makes room for what the changes of a script come to.
-fn room_for(alloc: Global, state: &mut Facts, script: &str) -> Result<Room, Fault>
-    ensures { IfOk result (λ room. state.new.room ≡ Some room) }
-{
-    let changes = changes_of(alloc, script)?;
-    let delta = state.delta(alloc, changes.as_slice())?;
-    Ok(state.reserve(alloc, &delta)?)
+    let after = facts_of(
+        alloc,
+        format!(in alloc; "{STATE}a retract _x\na assert _w # _C\n")?.as_str(),
+    )?;
+    assert_eq!(rt;
+        facts_text(alloc, &state)?.as_slice(),
+        facts_text(alloc, &after)?.as_slice()
+    );
+    Ok(())
 }
 
 const ALWAYS: &str = "If And()";
@@ -191,26 +165,17 @@ static CONDITIONS: &[(&str, &str, &str)] = &[
 
 #[test]
 fn rows_satisfy_conditions(rt: HostRuntime) -> Result<(), Fail> {
-    let facts = facts_of(rt.alloc(), STATE)?;
+    let alloc = rt.alloc();
+    let facts = facts_of(alloc, STATE)?;
     for (first, second, wanted) in CONDITIONS {
-        shows(
-            &rt,
-            &longer_rows(rt.alloc(), &facts, first, second)?,
-            wanted,
-            first,
-        )?;
+        let mut shown = Vec::new(alloc);
+        let second = rule_with(alloc, second)?;
+        for instance in list_instances(alloc, &rule_with(alloc, first)?, &facts)?.as_slice() {
+            show_longer(alloc, &mut shown, &facts, &second, &instance.row)?;
+        }
+        assert_eq!(rt; str::from_utf8(shown.as_slice())?, *wanted, "{first}");
     }
     Ok(())
-}
-
-// The rows of the instances of the first rule, extended under the condition of the second.
-fn longer_rows(alloc: Global, facts: &Facts, first: &str, second: &str) -> Result<Vec<u8>, Fault> {
-    let (first, second) = (rule_with(alloc, first)?, rule_with(alloc, second)?);
-    let mut shown = Vec::new(alloc);
-    for instance in list_instances(alloc, &first, facts)?.as_slice() {
-        show_longer(alloc, &mut shown, facts, &second, &instance.row)?;
-    }
-    Ok(shown)
 }
 
 // The document of the rule that begins so.
@@ -251,13 +216,15 @@ static HISTORY: &[&str] = &[
 
 #[test]
 fn a_history_marks_its_instances_and_one_is_chosen(rt: HostRuntime) -> Result<(), Fail> {
-    let doc = doc_of(rt.alloc(), RULES)?;
-    let facts = facts_of(rt.alloc(), STATE)?;
-    let mut history = Plain::start(rt.alloc(), &doc)?;
+    let alloc = rt.alloc();
+    let doc = doc_of(alloc, RULES)?;
+    let facts = facts_of(alloc, STATE)?;
+    let mut history = Plain::start(alloc, &doc)?;
     for wanted in HISTORY {
         let pick = choose_plain(&doc, &history)?;
-        history.push(rt.alloc(), &doc, &facts, pick)?;
-        shows(&rt, &history_text(rt.alloc(), &history)?, wanted, wanted)?;
+        history.push(alloc, &doc, &facts, pick)?;
+        let shown = history_text(alloc, &history)?;
+        assert_eq!(rt; str::from_utf8(shown.as_slice())?, *wanted);
     }
     assert!(rt; choose_plain(&doc, &history)?.is_none());
     Ok(())
